@@ -1,0 +1,7 @@
+pub mod Operators
+pub mod Trees
+pub mod Refusals
+pub mod Statements
+pub mod Stacks
+pub mod Faults
+pub mod Checked

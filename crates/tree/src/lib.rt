@@ -1,0 +1,6 @@
+// Words, operators, postfix trees, statements and their values.
+pub mod checked;
+pub mod faults;
+pub mod nodes;
+pub mod operators;
+pub mod stack;
