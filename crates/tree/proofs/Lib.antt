@@ -1,2 +1,4 @@
 pub mod Stacks
 pub mod Conditions
+pub mod Forests
+pub mod Grants
