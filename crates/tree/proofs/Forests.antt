@@ -19,7 +19,7 @@ use Rattle.tree.specs.declared.operators.Binary.the-variants.{Add, Sub, Mul, A
 use Rattle.tree.specs.declared.operators.Operator.{Operator}
 use Rattle.tree.specs.declared.operators.Operator.the-variants.{Cnst, Var, One, Two}
 use Rattle.tree.specs.declared.nodes.Node.{Node}
-use Rattle.tree.specs.Operators.{operator-number, operator-of, numbered-among, all-operators}
+use Rattle.tree.specs.Operators.{operator-number, operator-of, numbered-among, all-operators, NumberedOnce}
 use Rattle.tree.specs.Trees.{Tree, cnst, var, one, two, node-count, node-of, postfix}
 use Rattle.tree.specs.Statements.{Faulty, unknown, lacks-part, has-payload, parts-of, parts-taken, standing, node-at, FaultyAt, OneTreeAtMost}
 use Rattle.tree.specs.Refusals.{NoneBelow}
@@ -54,6 +54,9 @@ number-among (p ∷ os) n o e = go (eqb n (operator-number p)) refl (number-amon
 
 pub number-of-operator : (n : ℕ) (o : Operator) → operator-of n ≡ Some o → operator-number o ≡ n
 number-of-operator n o e = number-among all-operators n o e
+
+pub numbered-once : NumberedOnce
+numbered-once n o = (number-of-operator n o, λ e. ap operator-of (sym e) ∙ operator-of-number o)
 
 -- the newest tree, and the others
 abbrev pub newest : List Tree → Tree
@@ -151,15 +154,19 @@ joins ts x sound = go (operator-of (x .operator)) refl
   where
     node-is : (o : Operator) (w : ℕ) → operator-of (x .operator) ≡ Some o → x .payload ≡ w → node-of o w ≡ x
     node-is o w e p = λ i. record { operator = number-of-operator (x .operator) o e i; payload = sym p i }
+
     no-payload : (o : Operator) → operator-of (x .operator) ≡ Some o → 0 < parts-of (Some o) → x .payload ≡ 0
     no-payload o e h = equal-from (x .payload) 0 (λ n. sound (has-payload (subst (λ op. 0 < parts-of op) (sym e) h) n))
+
     enough : (o : Operator) → operator-of (x .operator) ≡ Some o → (length ts < parts-of (Some o)) → ⊥
     enough o e h = sound (lacks-part (subst (λ op. length ts < parts-of op) (sym e) h))
+
     at : (op : Option Operator) → operator-of (x .operator) ≡ op → flat (joined-by op (x .payload) ts) ≡ flat ts ++ x ∷ [] → length (joined-by op (x .payload) ts) ≡ length ts - parts-of op + 1 → Joins ts x
     at op e n c = record {
       nodes = ap (λ q. flat (joined-by q (x .payload) ts)) e ∙ n;
       count = ap (λ q. length (joined-by q (x .payload) ts)) e ∙ c ∙ ap (λ q. length ts - parts-of q + 1) (sym e);
     }
+
     go : (op : Option Operator) → operator-of (x .operator) ≡ op → Joins ts x
     go None e = absurd (sound (unknown e))
     go (Some Cnst) e = at (Some Cnst) e (ap (λ y. flat ts ++ y ∷ []) (node-is Cnst _ e refl)) (omega arith)
@@ -215,11 +222,11 @@ clean-postfix (two o t u) n xs c =
     let taken = ap parts-of (operator-of-number (Two o)) in
     subst (Clean n) (sym (append-assoc (postfix t) (postfix u ++ node-of (Two o) 0 ∷ []) xs))
     (clean-postfix t n _
-      (subst (Clean (n + 1)) (sym (append-assoc (postfix u) (node-of (Two o) 0 ∷ []) xs))
-        (clean-postfix u (n + 1) (node-of (Two o) 0 ∷ xs) (
-          not-faulty (n + 1 + 1) (Two o) 0 (omega arith) (λ h. refl),
-          subst (λ k. Clean k xs) (omega arith) c,
-        ))))
+    (subst (Clean (n + 1)) (sym (append-assoc (postfix u) (node-of (Two o) 0 ∷ []) xs))
+    (clean-postfix u (n + 1) (node-of (Two o) 0 ∷ xs) (
+      not-faulty (n + 1 + 1) (Two o) 0 (omega arith) (λ h. refl),
+      subst (λ k. Clean k xs) (omega arith) c,
+    ))))
 
 pub postfix-clean : (t : Tree) → Clean 0 (postfix t)
 postfix-clean t = subst (Clean 0) (append-nil (postfix t)) (clean-postfix t 0 [] tt)

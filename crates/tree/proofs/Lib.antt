@@ -2,3 +2,6 @@ pub mod Stacks
 pub mod Conditions
 pub mod Forests
 pub mod Grants
+pub mod Values
+pub mod Programs
+pub mod Signs

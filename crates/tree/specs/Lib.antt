@@ -5,3 +5,5 @@ pub mod Statements
 pub mod Stacks
 pub mod Faults
 pub mod Checked
+pub mod Evaluations
+pub mod Values

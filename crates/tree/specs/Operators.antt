@@ -1,12 +1,13 @@
 -- Words, and the fourteen operators: their numbers, their names, how many parts each has and what each gives.
 -- A word is a number from 0 to 4294967295, and every result is taken modulo 2 ^ 32.
+use mathlib.Core.Path.{_≡_}
 use mathlib.Core.Bool.{cond}
 use mathlib.Core.List.{List, [], _∷_}
-use Prim.Native.Nat.{ℕ, suc, _+_, _-_, _*_, _/_, _%_, _^_}
+use Prim.Native.Nat.{ℕ, suc, _+_, _-_, _*_, _/_, _%_, _^_, _<_, _≤_}
 use lib.Bits.{bitAnd, bitOr, bitXor}
 use lib.Chars.{codes}
 use lib.Dec.{eqb, ltb}
-use lib.IntN.{ℤ, pos, negsuc}
+use lib.IntN.{ℤ, pos, negsuc, _+ℤ_}
 use lib.Signed.{ltZ}
 use Rattle.std.specs.declared.option.Option.{Option}
 use Rattle.std.specs.declared.option.Option.the-variants.{Some, None}
@@ -101,3 +102,12 @@ operator-name (Two Shl) = codes "SHL"
 operator-name (Two Shr) = codes "SHR"
 operator-name (Two Sar) = codes "SAR"
 operator-name (Two Lt) = codes "LT"
+
+-- the signed reading by integers: the word itself below 2 ^ 31, and 2 ^ 32 less from there on
+abbrev pub SignedReading : Type 0
+SignedReading =
+    (w : ℕ) → w < 2 ^ 32 → (w < 2 ^ 31 → signed w ≡ pos w) × (2 ^ 31 ≤ w → signed w +ℤ pos (2 ^ 32) ≡ pos w)
+
+-- numbers and operators belong together one to one
+abbrev pub NumberedOnce : Type 0
+NumberedOnce = (n : ℕ) (o : Operator) → (operator-of n ≡ Some o → operator-number o ≡ n) × (operator-number o ≡ n → operator-of n ≡ Some o)

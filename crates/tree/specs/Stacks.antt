@@ -1,7 +1,7 @@
 -- What a bounded stack holds, and what a push and a pop make of it.
 use mathlib.Core.Path.{_≡_}
 use mathlib.Core.List.{List, [], _∷_, reverse}
-use Prim.Native.Nat.{ℕ, _<_}
+use Prim.Native.Nat.{ℕ, _+_, _<_}
 use lib.ListN.{length, take, drop}
 use Rattle.tree.specs.declared.stack.Stack.{Stack}
 
@@ -13,6 +13,10 @@ module _ {T : Type 0} where
   -- the memory beyond the entries: there is room while it is not empty
   abbrev pub beyond : Stack T → List T
   beyond s = drop (s .len) (s .memory .now)
+
+  -- how many entries there is memory for in all
+  abbrev pub capacity : Stack T → ℕ
+  capacity s = length (held s) + length (beyond s)
 
   -- x is the newest entry, in the first place of the memory beyond; the rest of that memory is untouched
   pub record Pushed (s : Stack T) (x : T) (after : Stack T) : Type 0 where

@@ -52,10 +52,10 @@ pub record Assignment : Type 0 where
   pub assigned : ℕ
   pub expression : Tree
 
-abbrev pub assign : Assignment → List ℕ → List ℕ
-assign a σ = set σ (a .assigned) (value-of σ (a .expression))
+abbrev pub changed-by : Assignment → List ℕ → List ℕ
+changed-by a σ = set σ (a .assigned) (value-of σ (a .expression))
 
 -- assignments in order, each in the setting that those before it leave
 abbrev pub evaluated : List Assignment → List ℕ → List ℕ
 evaluated [] σ = σ
-evaluated (a ∷ rest) σ = evaluated rest (assign a σ)
+evaluated (a ∷ rest) σ = evaluated rest (changed-by a σ)

@@ -1,6 +1,7 @@
 // Statements that keep the rules.
 ghost use Rattle.tree.specs.Statements.{StatementGranted};
 ghost use lib.ListN.{take};
+ghost use Prim.Native.Nat.{_≤_};
 use crate::nodes::Node;
 
 mod check;
@@ -11,5 +12,6 @@ pub struct CheckedStatement {
     pub target: u32,
     pub nodes: [Node; 256],
     pub len: usize,
+    ghost within: { len ≤ 256 },
     ghost granted: { StatementGranted target (take len nodes) },
 }

@@ -121,44 +121,48 @@ impl Operator {
     pub fn from_number(number: u32) -> Option<Operator>
         ensures { λ r. ⌜ r ≡ operator-of number ⌝ }
     {
-        Some(match number {
-            1 => Operator::Cnst,
-            2 => Operator::Var,
-            3 => Operator::One(Unary::Neg),
-            4 => Operator::One(Unary::Not),
-            5 => Operator::Two(Binary::Add),
-            6 => Operator::Two(Binary::Sub),
-            7 => Operator::Two(Binary::Mul),
-            8 => Operator::Two(Binary::And),
-            9 => Operator::Two(Binary::Or),
-            10 => Operator::Two(Binary::Xor),
-            11 => Operator::Two(Binary::Shl),
-            12 => Operator::Two(Binary::Shr),
-            13 => Operator::Two(Binary::Sar),
-            14 => Operator::Two(Binary::Lt),
-            _ => return None,
-        })
+        Some(
+            match number {
+                1 => Operator::Cnst,
+                2 => Operator::Var,
+                3 => Operator::One(Unary::Neg),
+                4 => Operator::One(Unary::Not),
+                5 => Operator::Two(Binary::Add),
+                6 => Operator::Two(Binary::Sub),
+                7 => Operator::Two(Binary::Mul),
+                8 => Operator::Two(Binary::And),
+                9 => Operator::Two(Binary::Or),
+                10 => Operator::Two(Binary::Xor),
+                11 => Operator::Two(Binary::Shl),
+                12 => Operator::Two(Binary::Shr),
+                13 => Operator::Two(Binary::Sar),
+                14 => Operator::Two(Binary::Lt),
+                _ => return None,
+            },
+        )
     }
 
     pub fn from_name(name: &str) -> Option<Operator>
         ensures { λ r. ⌜ BySome r ((o : Operator) → operator-name o ≡ now (name .entry) → ⊥) (λ o. operator-name o ≡ now (name .entry)) ⌝ }
     {
-        Some(match name {
-            "CNST" => Operator::Cnst,
-            "VAR" => Operator::Var,
-            "NEG" => Operator::One(Unary::Neg),
-            "NOT" => Operator::One(Unary::Not),
-            "ADD" => Operator::Two(Binary::Add),
-            "SUB" => Operator::Two(Binary::Sub),
-            "MUL" => Operator::Two(Binary::Mul),
-            "AND" => Operator::Two(Binary::And),
-            "OR" => Operator::Two(Binary::Or),
-            "XOR" => Operator::Two(Binary::Xor),
-            "SHL" => Operator::Two(Binary::Shl),
-            "SHR" => Operator::Two(Binary::Shr),
-            "SAR" => Operator::Two(Binary::Sar),
-            "LT" => Operator::Two(Binary::Lt),
-            _ => return None,
-        })
+        Some(
+            match name {
+                "CNST" => Operator::Cnst,
+                "VAR" => Operator::Var,
+                "NEG" => Operator::One(Unary::Neg),
+                "NOT" => Operator::One(Unary::Not),
+                "ADD" => Operator::Two(Binary::Add),
+                "SUB" => Operator::Two(Binary::Sub),
+                "MUL" => Operator::Two(Binary::Mul),
+                "AND" => Operator::Two(Binary::And),
+                "OR" => Operator::Two(Binary::Or),
+                "XOR" => Operator::Two(Binary::Xor),
+                "SHL" => Operator::Two(Binary::Shl),
+                "SHR" => Operator::Two(Binary::Shr),
+                "SAR" => Operator::Two(Binary::Sar),
+                "LT" => Operator::Two(Binary::Lt),
+                _ => return None,
+            },
+        )
     }
 }

@@ -15,6 +15,7 @@ use crate::nodes::Statement;
 use crate::operators::Operator;
 
 const NODE_LIMIT: usize = 256;
+
 const LAST_VARIABLE: u32 = 63;
 
 // How many trees stand after the node, or none where it is at fault.
@@ -41,7 +42,11 @@ fn malformed(statement: Statement) -> Option<usize>
             None => return Some(i),
         }
     }
-    if standing == 1 { None } else { Some(nodes.len()) }
+    if standing == 1 {
+        None
+    } else {
+        Some(nodes.len())
+    }
 }
 
 // The first node whose variable is over the last, or the node count where the target is.
@@ -54,7 +59,11 @@ fn variable_over(statement: Statement) -> Option<usize>
             return Some(i);
         }
     }
-    if statement.target > LAST_VARIABLE { Some(nodes.len()) } else { None }
+    if statement.target > LAST_VARIABLE {
+        Some(nodes.len())
+    } else {
+        None
+    }
 }
 
 // The nodes at the front of an array.
@@ -62,7 +71,10 @@ fn at_front(nodes: &[Node]) -> [Node; 256]
     requires { ⌜ length (now nodes) ≤ 256 ⌝ }
     ensures { λ r. ⌜ take (length (now (nodes .entry))) r ≡ now (nodes .entry) ⌝ }
 {
-    let mut all = [Node { operator: 0, payload: 0 }; NODE_LIMIT];
+    let mut all = [Node {
+        operator: 0,
+        payload: 0,
+    }; NODE_LIMIT];
     all[0..nodes.len()].copy_from_slice(nodes);
     all
 }

@@ -17,7 +17,7 @@ pub loop-i-again : need.loop-i-again
 loop-i-again c =
     below-more _ _ (c .loop-i .inv)
     (λ over.
-        elim (c .else-node-number .came) [
-          else-node-number·by·then-node-number·else-node-gt-LAST-VARIABLE w ↦ omega (arith, w .if-node-gt-LAST-VARIABLE .left, over .1)
-        | else-node-number·by·else-node-number w ↦ w .if-node-number .left (over .0 ∙ sym (c .number .ensures))
-        ])
+    elim (c .else-node-number .came) [
+      | else-node-number·by·then-node-number·else-node-gt-LAST-VARIABLE w ↦ omega (arith, w .if-node-gt-LAST-VARIABLE .left, over .1)
+      | else-node-number·by·else-node-number w ↦ w .if-node-number .left (over .0 ∙ sym (c .number .ensures))
+    ])

@@ -8,7 +8,11 @@ returns-in-Some-variable-over c =
     denied-13 _ _ (c .if-len-gt-NODE-LIMIT .left) (c .in-rest .ensures tt) _ (c .in-Some-variable-over .ensures tt)
 
 pub ghost-result : need.ghost-result
-ghost-result c =
-    (subst (StatementGranted (c .args .self .target)) (sym (c .at-front-nodes .ensures))
-      (granted _ _ (c .if-len-gt-NODE-LIMIT .left) (c .in-rest .ensures tt) (c .in-rest-variable-over .ensures tt)),
-      tt)
+ghost-result c = (
+  c .if-len-gt-NODE-LIMIT .left,
+  (
+    subst (StatementGranted (c .args .self .target)) (sym (c .at-front-nodes .ensures))
+        (granted _ _ (c .if-len-gt-NODE-LIMIT .left) (c .in-rest .ensures tt) (c .in-rest-variable-over .ensures tt)),
+    tt,
+  ),
+)
