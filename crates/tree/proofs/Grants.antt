@@ -8,15 +8,16 @@ use lib.ListN.{length, getD, take}
 use Rattle.std.specs.declared.option.Option.the-variants.{Some}
 use Rattle.std.specs.shelf.Lists.{All}
 use Rattle.std.proofs.shelf.Elements.{all-getD, all-from-getD, all-append}
-use Rattle.tree.specs.declared.operators.Operator.{Operator}
-use Rattle.tree.specs.declared.operators.Operator.the-variants.{Cnst, Var, One, Two}
+use Rattle.operators.specs.declared.Operator.{Operator}
+use Rattle.operators.specs.declared.Operator.the-variants.{Cnst, Var, One, Two}
 use Rattle.tree.specs.declared.nodes.Node.{Node}
-use Rattle.tree.specs.Operators.{operator-number, operator-of}
+use Rattle.operators.specs.Operators.{operator-number, operator-of}
 use Rattle.tree.specs.Trees.{Tree, cnst, var, one, two, node-count, node-of, postfix, VariablesWithin}
 use Rattle.tree.specs.Refusals.{FirstBelow, NoneBelow}
 use Rattle.tree.specs.Statements.{StatementFails, StatementGranted, Stands, GrantedIsTree, FaultyAt, VariableOver, standing, parts-of, node-at, too-many, faulty, no-tree, variable-over, target-over}
+use Rattle.operators.proofs.Numbers.{operator-of-number}
 use Rattle.tree.proofs.Conditions.{none-11, none-13, granted}
-use Rattle.tree.proofs.Forests.{operator-of-number, newest, forest, flat, Clean, clean-below, below-clean, stood, postfix-clean, standing-postfix, length-postfix, at-least, equal-from}
+use Rattle.tree.proofs.Forests.{newest, forest, flat, Clean, clean-below, below-clean, stood, postfix-clean, standing-postfix, length-postfix, at-least, equal-from}
 
 -- where there is no first, there is none
 none-below : (n : ℕ) (P : ℕ → Type 0) → ((i : ℕ) → FirstBelow n P i → ⊥) → (k : ℕ) → k ≤ n → NoneBelow k P

@@ -4,4 +4,3 @@ pub mod Forests
 pub mod Grants
 pub mod Values
 pub mod Programs
-pub mod Signs

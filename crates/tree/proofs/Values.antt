@@ -7,10 +7,10 @@ use lib.ListN.{length, getD, take}
 use Rattle.std.proofs.shelf.Lists.{take-more, length-map}
 use Rattle.std.specs.declared.option.Option.{Option}
 use Rattle.std.specs.declared.option.Option.the-variants.{Some, None}
-use Rattle.tree.specs.declared.operators.Operator.{Operator}
-use Rattle.tree.specs.declared.operators.Operator.the-variants.{Cnst, Var, One, Two}
+use Rattle.operators.specs.declared.Operator.{Operator}
+use Rattle.operators.specs.declared.Operator.the-variants.{Cnst, Var, One, Two}
 use Rattle.tree.specs.declared.nodes.Node.{Node}
-use Rattle.tree.specs.Operators.{operator-of, unary, binary}
+use Rattle.operators.specs.Operators.{operator-of, unary, binary}
 use Rattle.tree.specs.Trees.{Tree, postfix, value-of}
 use Rattle.tree.specs.Statements.{node-at}
 use Rattle.tree.specs.Values.{top, under, values-by, values-after}

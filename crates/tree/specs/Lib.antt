@@ -1,4 +1,3 @@
-pub mod Operators
 pub mod Trees
 pub mod Refusals
 pub mod Statements

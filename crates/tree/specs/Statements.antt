@@ -5,10 +5,10 @@ use Prim.Native.Nat.{ℕ, _+_, _-_, _<_, _≤_}
 use lib.ListN.{length, getD, take}
 use Rattle.std.specs.declared.option.Option.{Option}
 use Rattle.std.specs.declared.option.Option.the-variants.{Some, None}
-use Rattle.tree.specs.declared.operators.Operator.{Operator}
-use Rattle.tree.specs.declared.operators.Operator.the-variants.{Var}
+use Rattle.operators.specs.declared.Operator.{Operator}
+use Rattle.operators.specs.declared.Operator.the-variants.{Var}
 use Rattle.tree.specs.declared.nodes.Node.{Node}
-use Rattle.tree.specs.Operators.{operator-number, operator-arity, operator-of}
+use Rattle.operators.specs.Operators.{operator-number, operator-arity, operator-of}
 use Rattle.tree.specs.Trees.{Tree, node-count, postfix, VariablesWithin}
 use Rattle.tree.specs.Refusals.{RefusedBy, GrantedBy, FirstBelow, NoneBelow}
 

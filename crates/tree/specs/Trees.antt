@@ -2,12 +2,12 @@
 use mathlib.Core.List.{List, [], _∷_, _++_}
 use Prim.Native.Nat.{ℕ, _+_, _≤_}
 use lib.ListN.{getD, set}
-use Rattle.tree.specs.declared.operators.Unary.{Unary}
-use Rattle.tree.specs.declared.operators.Binary.{Binary}
-use Rattle.tree.specs.declared.operators.Operator.{Operator}
-use Rattle.tree.specs.declared.operators.Operator.the-variants.{Cnst, Var, One, Two}
+use Rattle.operators.specs.declared.Unary.{Unary}
+use Rattle.operators.specs.declared.Binary.{Binary}
+use Rattle.operators.specs.declared.Operator.{Operator}
+use Rattle.operators.specs.declared.Operator.the-variants.{Cnst, Var, One, Two}
 use Rattle.tree.specs.declared.nodes.Node.{Node}
-use Rattle.tree.specs.Operators.{unary, binary, operator-number}
+use Rattle.operators.specs.Operators.{unary, binary, operator-number}
 
 -- a constant, a variable by its number, or an operator over one or two parts
 pub data Tree : Type 0 where

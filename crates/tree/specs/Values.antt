@@ -4,10 +4,10 @@ use Prim.Native.Nat.{ℕ}
 use lib.ListN.{getD}
 use Rattle.std.specs.declared.option.Option.{Option}
 use Rattle.std.specs.declared.option.Option.the-variants.{Some, None}
-use Rattle.tree.specs.declared.operators.Operator.{Operator}
-use Rattle.tree.specs.declared.operators.Operator.the-variants.{Cnst, Var, One, Two}
+use Rattle.operators.specs.declared.Operator.{Operator}
+use Rattle.operators.specs.declared.Operator.the-variants.{Cnst, Var, One, Two}
 use Rattle.tree.specs.declared.nodes.Node.{Node}
-use Rattle.tree.specs.Operators.{operator-of, unary, binary}
+use Rattle.operators.specs.Operators.{operator-of, unary, binary}
 
 -- the newest value, 0 where there is none, and the others
 abbrev pub top : List ℕ → ℕ

@@ -14,8 +14,8 @@ use crate::checked::CheckedStatement;
 use crate::faults::EvaluationFault;
 use crate::nodes::Node;
 use crate::nodes::Statement;
-use crate::operators::Operator;
 use crate::stack::Stack;
+use operators::Operator;
 
 const NODE_LIMIT: usize = 256;
 

@@ -1,20 +1,5 @@
 // What is true of the definitions, for whoever reads the contracts.
-ghost use Rattle.tree.specs.Operators.{SignedReading, NumberedOnce};
 ghost use Rattle.tree.specs.Statements.{OneTreeAtMost, GrantedIsTree};
-
-// A word's signed reading is the word below 2^31, and 2^32 less from there on.
-pub fn signed_reading() -> bool
-    ensures { λ _. ⌜ SignedReading ⌝ }
-{
-    true
-}
-
-// Every number names at most one operator, and every operator has one number.
-pub fn numbered_once() -> bool
-    ensures { λ _. ⌜ NumberedOnce ⌝ }
-{
-    true
-}
 
 // A list of nodes is the postfix of at most one tree.
 pub fn one_tree_at_most() -> bool

@@ -1,8 +1,7 @@
-// Words, operators, postfix trees, statements and their values.
+// Postfix trees, statements and their values, and the bounded stack.
 pub mod checked;
 pub mod evaluation;
 pub mod faults;
 pub mod laws;
 pub mod nodes;
-pub mod operators;
 pub mod stack;

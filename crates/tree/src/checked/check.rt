@@ -12,7 +12,7 @@ use super::CheckedStatement;
 use crate::faults::StatementFault;
 use crate::nodes::Node;
 use crate::nodes::Statement;
-use crate::operators::Operator;
+use operators::Operator;
 
 const NODE_LIMIT: usize = 256;
 

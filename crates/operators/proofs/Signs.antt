@@ -6,7 +6,7 @@ use native.Mathlib.Omega.{arith}
 use lib.Dec.{ltb}
 use lib.IntN.{ℤ, pos, negsuc, _+ℤ_}
 use Rattle.std.proofs.shelf.Signed.{ints}
-use Rattle.tree.specs.Operators.{signed, SignedReading}
+use Rattle.operators.specs.Operators.{signed, SignedReading}
 
 pub signed-reading : SignedReading
 signed-reading w h = (λ low. grind (arith, ints), λ high. grind (arith, ints))

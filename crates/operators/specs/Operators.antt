@@ -11,12 +11,12 @@ use lib.IntN.{ℤ, pos, negsuc, _+ℤ_}
 use lib.Signed.{ltZ}
 use Rattle.std.specs.declared.option.Option.{Option}
 use Rattle.std.specs.declared.option.Option.the-variants.{Some, None}
-use Rattle.tree.specs.declared.operators.Unary.{Unary}
-use Rattle.tree.specs.declared.operators.Unary.the-variants.{Neg, Not}
-use Rattle.tree.specs.declared.operators.Binary.{Binary}
-use Rattle.tree.specs.declared.operators.Binary.the-variants.{Add, Sub, Mul, And, Or, Xor, Shl, Shr, Sar, Lt}
-use Rattle.tree.specs.declared.operators.Operator.{Operator}
-use Rattle.tree.specs.declared.operators.Operator.the-variants.{Cnst, Var, One, Two}
+use Rattle.operators.specs.declared.Unary.{Unary}
+use Rattle.operators.specs.declared.Unary.the-variants.{Neg, Not}
+use Rattle.operators.specs.declared.Binary.{Binary}
+use Rattle.operators.specs.declared.Binary.the-variants.{Add, Sub, Mul, And, Or, Xor, Shl, Shr, Sar, Lt}
+use Rattle.operators.specs.declared.Operator.{Operator}
+use Rattle.operators.specs.declared.Operator.the-variants.{Cnst, Var, One, Two}
 
 -- the signed reading of a word: w below 2 ^ 31, and w - 2 ^ 32 from there on (`negsuc n` is the integer - (n + 1))
 abbrev pub signed : ℕ → ℤ

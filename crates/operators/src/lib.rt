@@ -1,8 +1,10 @@
-// The fourteen operators of expressions.
+// Words and the fourteen operators of expressions.
 ghost use mathlib.Core.Path.{_≡_};
 ghost use Rattle.std.specs.Options.{Cases as BySome};
-ghost use Rattle.tree.specs.Operators.{unary, binary, operator-number, operator-arity, operator-name, operator-of};
-ghost use Rattle.tree.specs.declared.operators.Operator.{Operator};
+ghost use Rattle.operators.specs.Operators.{unary, binary, operator-number, operator-arity, operator-name, operator-of};
+ghost use Rattle.operators.specs.declared.Operator.{Operator};
+
+pub mod laws;
 
 // The operators with one part.
 #[derive(Clone, Copy, Debug, PartialEq)]
