@@ -5,6 +5,8 @@ ghost use Rattle.operators.specs.Operators.{unary, binary, operator-number, op
 ghost use Rattle.operators.specs.declared.Operator.{Operator};
 
 pub mod laws;
+#[cfg(test)]
+mod tests;
 
 // The operators with one part.
 #[derive(Clone, Copy, Debug, PartialEq)]

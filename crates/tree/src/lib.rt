@@ -5,3 +5,5 @@ pub mod faults;
 pub mod laws;
 pub mod nodes;
 pub mod stack;
+#[cfg(test)]
+mod tests;
