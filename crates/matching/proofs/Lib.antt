@@ -1,0 +1,4 @@
+pub mod Matched
+pub mod Subtrees
+pub mod LeftParts
+pub mod Steps

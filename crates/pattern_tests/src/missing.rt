@@ -1,0 +1,3 @@
+// What was to be made is not there.
+#[derive(Clone, Copy, Debug)]
+pub struct Missing;
