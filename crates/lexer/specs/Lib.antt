@@ -1,0 +1,4 @@
+pub mod Bytes
+pub mod Tokens
+pub mod Meanings
+pub mod Tilings
