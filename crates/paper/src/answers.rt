@@ -1,4 +1,6 @@
 // How answers are written.
+use crate::commands::CostKind;
+use description::descriptions::Description;
 use std::alloc::AllocError;
 use std::alloc::Global;
 
@@ -19,4 +21,36 @@ pub(crate) fn variables(heap: Global, variables: &[u32]) -> Result<String, Alloc
         line.push_str(" all 0")?;
     }
     Ok(line)
+}
+
+pub(crate) fn cost_kind(heap: Global, kind: CostKind) -> Result<String, AllocError> {
+    String::from_str(
+        heap,
+        match kind {
+            CostKind::Cycles => "  cycles",
+            CostKind::Size => "  size",
+            CostKind::Longest => "  longest",
+        },
+    )
+}
+
+// How many names and rules there are, and which name is the start.
+pub(crate) fn description(heap: Global, description: &Description) -> Result<String, AllocError> {
+    let names = description.name_count;
+    let rules = description.rule_count;
+    let start = start_text(heap, description)?;
+    format!(heap, "  {names} names, start {start}, {rules} rules")
+}
+
+// The start's name; a description that was read has one.
+fn start_text(heap: Global, description: &Description) -> Result<String, AllocError> {
+    let mut text = String::new(heap);
+    if let Some(start) = description.start_number() {
+        if let Some(nonterminal) = description.name(start) {
+            for byte in &nonterminal.name.bytes[0..nonterminal.name.len] {
+                text.push(char::from(*byte))?;
+            }
+        }
+    }
+    Ok(text)
 }

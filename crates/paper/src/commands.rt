@@ -1,27 +1,49 @@
 // The commands of a paper.
+ghost use Prim.Native.Nat.{_≤_};
+ghost use lib.ListN.{length};
 use crate::desk::Handed;
 use crate::stop::Stop;
 use crate::stop::StopFromAlloc;
 use crate::stop::StopFromRefused;
+use crate::text::Lines;
 use crate::text::Words;
 use crate::text::before;
 use operators::Operator;
 use std::alloc::Global;
-use std::str;
+use std::str::from_utf8;
 use tree::nodes::Node;
 
 const VARIABLES: u32 = 64;
 
 const MOST_VARIABLES: u32 = 1024;
 
-#[derive(Drop)]
-pub enum Command {
-    Statement(Handed),
-    Evaluate(Vec<u32>),
+const KINDS: &str = "after cost one word: cycles, size or longest";
+
+// The kind of what covers cost.
+#[derive(Clone, Copy)]
+pub enum CostKind {
+    Cycles,
+    Size,
+    Longest,
 }
 
-// The command of a line; none where the line is a comment or has no word.
-pub(crate) fn parse(heap: Global, line: &[u8]) -> Result<Option<Command>, Stop> {
+#[derive(Drop)]
+pub enum Command<'a> {
+    Statement(Handed),
+    Evaluate(Vec<u32>),
+    // The text of a description.
+    Description(&'a [u8]),
+    Cost(CostKind),
+}
+
+// The command of a line, with the lines after it that belong to it; none where the line is a comment or has no word.
+pub(crate) fn parse<'a>(
+    heap: Global,
+    line: &'a [u8],
+    lines: &mut Lines<'a>,
+) -> Result<Option<Command<'a>>, Stop>
+    ensures { λ _. ⌜ length (now (now (lines .exit) .rest)) ≤ length (now (now (lines .entry) .rest)) ⌝ }
+{
     if let [b'#', ..] = line {
         return Ok(None);
     }
@@ -30,8 +52,40 @@ pub(crate) fn parse(heap: Global, line: &[u8]) -> Result<Option<Command>, Stop> 
         None => Ok(None),
         Some(b"statement") => Ok(Some(Command::Statement(statement(heap, words)?))),
         Some(b"evaluate") => Ok(Some(Command::Evaluate(setting(heap, words)?))),
-        Some(_) => Err(Stop::Expected("a command: statement or evaluate")),
+        Some(b"description") => Ok(Some(Command::Description(description(words, lines)?))),
+        Some(b"cost") => Ok(Some(Command::Cost(cost_kind(words)?))),
+        Some(_) => Err(Stop::Expected("a command: statement, evaluate, description or cost")),
     }
+}
+
+// Nothing more stands on the line.
+fn no_more(mut words: Words, expected: &'static str) -> Result<(), Stop> {
+    match words.next_word() {
+        None => Ok(()),
+        Some(_) => Err(Stop::Expected(expected)),
+    }
+}
+
+// The text of a description, up to the line `end`.
+fn description<'a>(words: Words, lines: &mut Lines<'a>) -> Result<&'a [u8], Stop>
+    ensures { λ _. ⌜ length (now (now (lines .exit) .rest)) ≤ length (now (now (lines .entry) .rest)) ⌝ }
+{
+    no_more(words, "the word description alone")?;
+    match lines.until_end() {
+        Some(text) => Ok(text),
+        None => Err(Stop::Expected("after the text of a description the line end")),
+    }
+}
+
+fn cost_kind(mut words: Words) -> Result<CostKind, Stop> {
+    let kind = match words.next_word() {
+        Some(b"cycles") => CostKind::Cycles,
+        Some(b"size") => CostKind::Size,
+        Some(b"longest") => CostKind::Longest,
+        _ => return Err(Stop::Expected(KINDS)),
+    };
+    no_more(words, KINDS)?;
+    Ok(kind)
 }
 
 // A word in base ten.
@@ -59,7 +113,7 @@ fn operator(text: &[u8]) -> Option<u32> {
     if let Some(number) = number(text) {
         return Some(number);
     }
-    match str::from_utf8(text) {
+    match from_utf8(text) {
         Ok(name) => Some(Operator::from_name(name)?.number()),
         Err(_) => None,
     }

@@ -1,6 +1,8 @@
 // What has been handed in, and the answers to commands.
 use crate::answers;
 use crate::commands::Command;
+use crate::commands::CostKind;
+use description::descriptions::Description;
 use std::alloc::AllocError;
 use std::alloc::Global;
 use tree::evaluation;
@@ -27,20 +29,40 @@ impl Handed {
 pub struct Desk {
     // The statements taken, in order.
     taken: Vec<Handed>,
+    description: Description,
+    kind: CostKind,
 }
 
 impl Desk {
     pub(crate) fn new(heap: Global) -> Desk {
         Desk {
             taken: Vec::new(heap),
+            description: Description::empty(),
+            kind: CostKind::Cycles,
         }
     }
 
     // Carries out a command; the lines of its answer.
-    pub(crate) fn answer(&mut self, heap: Global, command: Command) -> Result<String, AllocError> {
+    pub(crate) fn answer(
+        &mut self,
+        heap: Global,
+        command: Command<'_>,
+    ) -> Result<String, AllocError> {
         match command {
             Command::Statement(handed) => self.take(heap, handed),
             Command::Evaluate(variables) => self.evaluate(heap, variables),
+            Command::Description(text) => self.describe(heap, text),
+            Command::Cost(kind) => {
+                self.kind = kind;
+                answers::cost_kind(heap, kind)
+            }
+        }
+    }
+
+    fn describe(&mut self, heap: Global, text: &[u8]) -> Result<String, AllocError> {
+        match reader::read::read(text, &mut self.description) {
+            Ok(()) => answers::description(heap, &self.description),
+            Err(fault) => answers::refused(heap, fault.number(), fault.place()),
         }
     }
 

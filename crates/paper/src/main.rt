@@ -5,7 +5,9 @@ mod desk;
 mod stop;
 mod text;
 
+use commands::Command;
 use desk::Desk;
+use std::alloc::Global;
 use std::env;
 use std::error::AnyError;
 use std::fs;
@@ -32,17 +34,14 @@ fn paper(rt: &LibcRuntime) -> io::Result<Vec<u8>> {
     Ok(bytes)
 }
 
-// Prints the command of a line and its answer.
+// Carries out a command, and prints its line and its answer.
 fn answer<W: Write>(
-    rt: &LibcRuntime,
+    heap: Global,
     desk: &mut Desk,
     line: &[u8],
+    command: Command<'_>,
     out: &mut W,
 ) -> Result<(), Stop> {
-    let heap = rt.alloc();
-    let Some(command) = commands::parse(heap, line)? else {
-        return Ok(());
-    };
     let mut echo = text::single_spaced(heap, line)?;
     echo.push(b'\n')?;
     let answer = desk.answer(heap, command)?;
@@ -52,11 +51,16 @@ fn answer<W: Write>(
 }
 
 // Carries out the lines up to the first that is no command; how many were read, and why it stopped there.
-fn carry_out<W: Write>(rt: &LibcRuntime, bytes: &[u8], out: &mut W) -> (usize, Result<(), Stop>) {
+fn carry_out<W: Write>(heap: Global, bytes: &[u8], out: &mut W) -> (usize, Result<(), Stop>) {
     let mut lines = Lines::new(bytes);
-    let mut desk = Desk::new(rt.alloc());
+    let mut desk = Desk::new(heap);
     while let Some(line) = lines.next_line() {
-        if let Err(stop) = answer(rt, &mut desk, line, out) {
+        let done = match commands::parse(heap, line, &mut lines) {
+            Ok(Some(command)) => answer(heap, &mut desk, line, command, out),
+            Ok(None) => Ok(()),
+            Err(stop) => Err(stop),
+        };
+        if let Err(stop) = done {
             return (lines.read, Err(stop));
         }
     }
@@ -69,7 +73,7 @@ fn main(rt: LibcRuntime) -> Result<(), AnyError> {
         Err(error) => return rt.report(Err(error.into())),
     };
     let mut out = BufWriter::new(rt.stdout());
-    let (line, end) = carry_out(&rt, bytes.as_slice(), &mut out);
+    let (line, end) = carry_out(rt.alloc(), bytes.as_slice(), &mut out);
     out.flush()?;
     match end {
         Ok(()) => Ok(()),

@@ -74,6 +74,23 @@ impl<'a> Lines<'a> {
     }
 }
 
+impl<'a> Lines<'a> {
+    // The text up to a line that is just `end`, each line with its end; none where no such line follows.
+    pub(crate) fn until_end(&mut self) -> Option<&'a [u8]>
+        ensures { λ _. ⌜ length (now (now (self .exit) .rest)) ≤ length (now (now (self .entry) .rest)) ⌝ }
+    {
+        let text = self.rest;
+        let mut passed = 0;
+        while let Some(line) = self.next_line() {
+            if line == b"end" {
+                return Some(&text[0..passed]);
+            }
+            passed = text.len() - self.rest.len();
+        }
+        None
+    }
+}
+
 // The words of a line, in order.
 #[derive(Drop)]
 pub struct Words<'a> {

@@ -1,0 +1,5 @@
+pub mod Kinds
+pub mod Amounts
+pub mod Laws
+pub mod Least
+pub mod Halves
