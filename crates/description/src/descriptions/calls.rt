@@ -1,7 +1,7 @@
 // What a description is asked and told.
 ghost use mathlib.Core.Path.{_≡_};
 ghost use mathlib.Core.List.{[], _∷_, _++_};
-ghost use Rattle.std.specs.Options.{Cases as BySome};
+ghost use Rattle.std.specs.Options.{Cases as BySome, isSome};
 ghost use Rattle.std.specs.Results.{Cases};
 ghost use Rattle.std.specs.Orderings.{When};
 ghost use Prim.Native.Nat.{_-_, _<_, _≤_};
@@ -101,7 +101,7 @@ impl Description {
         if self.name_count == NAME_LIMIT {
             return Err(NameRefusal::TooMany);
         }
-        if self.number_of(&name.name).is_some() {
+        if self.declares(&name.name) {
             return Err(NameRefusal::Declared);
         }
         self.names[self.name_count] = name;
@@ -119,6 +119,12 @@ impl Description {
             }
         }
         None
+    }
+
+    fn declares(&self, name: &ShortName) -> bool
+        ensures { λ r. ⌜ r ≡ isSome (number-of-text (letters-of (now (name .entry))) (names-of (now (self .entry)))) ⌝ }
+    {
+        self.number_of(name).is_some()
     }
 
     // Makes the name of that number the start; false where there is no such name, and then nothing changes.

@@ -1,7 +1,6 @@
 use mathlib.Core.Path.{refl, sym, ap, _∙_}
 use native.Mathlib.Omega.{arith}
 use lib.ListN.{length-set}
-use Rattle.std.specs.Options.{isSome}
 use Rattle.std.proofs.shelf.Lists.{take-more-set}
 use Rattle.description.specs.Names.{declared-once, text-of}
 use Rattle.description.specs.Fits.{all-fit}
@@ -15,7 +14,7 @@ ghost-self c =
     let d = c .args .self .now in
     let n = d .«name_count» in
     let gained = take-more-set (d .names) n (c .args .name) (omega arith) in
-    let absent = absent-unless (text-of (c .args .name)) (names-of d) (sym (c .if-is-some .ensures tt ∙ ap isSome (c .number-of .ensures))) in (
+    let absent = absent-unless (text-of (c .args .name)) (names-of d) (sym (c .if-declares .ensures tt)) in (
       length-set (d .names) n _ ∙ d .«room_for_names»,
       (
         d .«room_for_rules»,
