@@ -1,4 +1,6 @@
 // Boards: all that a selector knows of one.
+#![tactic(auto)]
+
 ghost use Rattle.std.specs.Prelude.{◌≡◌, ◌<◌, ◌≤◌, length, MatchOption, MatchResult, slice_index};
 ghost use Rattle.pattern.specs.Letters.{letters_of};
 ghost use Rattle.board.specs.Acts.{IssueDenied, Issued, StoreDenied, Stored, RunFails, Ran};

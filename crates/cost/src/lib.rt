@@ -1,4 +1,6 @@
 // Cost kinds: what a cover costs.
+#![tactic(auto)]
+
 ghost use Rattle.std.specs.Prelude.{◌≡◌};
 ghost use Rattle.cost.specs.Kinds.{Kind, Lawful};
 

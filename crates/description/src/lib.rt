@@ -1,4 +1,6 @@
 // Machine descriptions: nonterminals, rules, and what they keep to.
+#![tactic(auto)]
+
 pub mod descriptions;
 pub mod laws;
 pub mod refusals;

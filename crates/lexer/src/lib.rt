@@ -1,4 +1,6 @@
 // The tokens of a text, read one by one from the lent bytes.
+#![tactic(auto)]
+
 ghost use Rattle.std.specs.Prelude.{◌≡◌, ◌≤◌, length};
 ghost use Rattle.lexer.specs.Tokens.{lexical_place};
 

@@ -1,4 +1,6 @@
 // Words and the fourteen operators of expressions.
+#![tactic(auto)]
+
 ghost use Rattle.std.specs.Prelude.{◌≡◌, MatchOption, ◌≢◌};
 ghost use Rattle.operators.specs.Operators.{unary, binary, operator_number, operator_arity, operator_name, operator_of};
 ghost use Rattle.operators.specs.declared.Operator.{Operator};

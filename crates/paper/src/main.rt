@@ -1,4 +1,6 @@
 // Reads a paper, carries out its commands in order and prints the key.
+#![tactic(auto)]
+
 mod answers;
 mod commands;
 mod desk;

@@ -1,4 +1,6 @@
 // Names, figures, ranges and patterns, and the value of a pattern.
+#![tactic(auto)]
+
 pub mod figures;
 pub mod intervals;
 pub mod items;

@@ -1,4 +1,6 @@
 // Examples of names, ranges, patterns, their matches and their values.
+#![tactic(auto)]
+
 #[cfg(test)]
 mod matches;
 #[cfg(test)]

@@ -1,4 +1,6 @@
 // Processors: what a board that keeps its code as words is made of, and the simulation of such words, for every processor.
+#![tactic(auto)]
+
 ghost use Rattle.std.specs.Prelude.{◌≡◌, ℕ, true, List, MatchBool, MatchOption};
 ghost use Rattle.board.specs.Instructions.{Denotes, InstructionNumbered};
 ghost use Rattle.board.specs.Machines.{Operation, arity};

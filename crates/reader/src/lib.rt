@@ -1,4 +1,6 @@
 // Descriptions read from text.
+#![tactic(auto)]
+
 pub mod faults;
 pub mod laws;
 mod lexemes;

@@ -1,4 +1,6 @@
 // The REG board: data registers in PLACE D and address registers in PLACE A.
+#![tactic(auto)]
+
 pub mod boards;
 pub mod laws;
 mod opcodes;

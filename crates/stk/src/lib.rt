@@ -1,4 +1,6 @@
 // The STK board: a stack, all in PLACE S.
+#![tactic(auto)]
+
 pub mod boards;
 pub mod laws;
 mod opcodes;

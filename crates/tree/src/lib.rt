@@ -1,4 +1,6 @@
 // Postfix trees, statements and their values, and the bounded stack.
+#![tactic(auto)]
+
 pub mod checked;
 pub mod evaluation;
 pub mod faults;
