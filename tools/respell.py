@@ -8,17 +8,19 @@ import os
 import re
 import sys
 
-WORDS = {"length", "append", "take", "drop", "map", "set", "get_or", "reverse", "sum", "cond", "last"}
-SIGNATURE = re.compile(r"^(  )?((?:abbrev |unfoldable )?(?:pub )?(?:abbrev |unfoldable )?(?:data |record )?)([^\s:(){}]+)(?: [({].*)? : ")
+WORDS = {"length", "append", "take", "drop", "map", "set", "get_or", "reverse", "sum"}
+# definitions whose names are plain words too, in lemmas of which they are meant as such
+PLAIN = {"after", "back", "is", "from", "more", "one", "two", "there", "within", "here", "again", "less", "left", "rest", "next", "none", "some", "first", "last", "found", "low", "high", "with", "on", "in", "room", "push"}
+SIGNATURE = re.compile(r"^( *)((?:abbrev |unfoldable )?(?:pub )?(?:abbrev |unfoldable )?(?:data |record )?)([^\s:(){}]+)(?: [({].*)? : ")
 NAME = re.compile(r"[^\s(){}\[\].;,\"⌜⌝|@]+")
-# names that would be those of fields of src/
-OTHERWISE = {"operand-count": "count_of_operands", "leaf-count": "count_of_leaves"}
+# names that would be those of fields or functions of src/
+OTHERWISE = {"operand-count": "count_of_operands", "leaf-count": "count_of_leaves", "signed-reading": "signed_reading_lem"}
 MADE = ("Answers.antt", "Invariants.antt", "Choices.antt", "Proof.antt")
 
 
 def files(ending):
     for folder, dirs, names in os.walk("crates"):
-        dirs[:] = sorted(d for d in dirs if d != "out")
+        dirs[:] = sorted(d for d in dirs if d not in ("out", "target"))
         for name in sorted(names):
             if name.endswith(ending):
                 yield os.path.join(folder, name)
@@ -29,28 +31,38 @@ def read(path):
         return f.read()
 
 
+def has_clause(text, indented, name):
+    """Whether the name is defined at that indentation, as in a module with parameters."""
+    return re.search(r"(?m)^" + indented + re.escape(name) + r"( [^:\n]*)? =", text) is not None
+
+
 def declared():
-    """The declared names: functions, constructors and fields, and apart from them the lemmas."""
-    functions, lemmas = set(), set()
+    """The declared names: functions with constructors and fields, of these the plain functions, and the lemmas."""
+    functions, plain, lemmas = set(), set(), set()
     for path in files(".antt"):
         made = os.path.basename(path) in MADE and "/proofs/" in path
         inside = False
-        for line in read(path).split("\n"):
-            if line and not line.startswith(" "):
-                inside = bool(re.match(r"(pub )?(data|record) ", line))
+        text = read(path)
+        for line in text.split("\n"):
+            if line and (not line.startswith(" ") or re.match(r" +(pub )?(data|record) ", line)):
+                inside = bool(re.match(r" *(pub )?(data|record) ", line))
+            if " = " in line:
+                inside = False
             m = SIGNATURE.match(line)
             if not m or line.lstrip().startswith("--"):
                 continue
             indented, marks, name = m.groups()
-            if indented and not inside:
+            if indented and not inside and not has_clause(text, indented, name):
                 continue
             if made and re.search(r" : goal\.", line):
                 continue
-            if indented or re.search(r"abbrev|unfoldable|data|record", marks):
+            if inside or re.search(r"abbrev|unfoldable|data|record", marks):
                 functions.add(name)
+                if re.search(r"abbrev|unfoldable", marks):
+                    plain.add(name)
             else:
                 lemmas.add(name)
-    return functions, lemmas
+    return functions, plain - PLAIN, lemmas
 
 
 def snake(name):
@@ -73,11 +85,11 @@ def source_functions():
 
 
 def renaming():
-    functions, lemmas = declared()
+    functions, plain, lemmas = declared()
     out = {f: OTHERWISE.get(f, snake(f)) for f in functions if "-" in f}
     taken = source_functions()
     for lemma in lemmas - functions:
-        new = respelled(lemma, functions)
+        new = OTHERWISE.get(lemma, respelled(lemma, plain))
         new += "_lem" if new in taken else ""
         if "-" in lemma and new != lemma:
             out[lemma] = new

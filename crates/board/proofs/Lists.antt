@@ -17,13 +17,13 @@ operands_counted (Binary o ∷ xs) = omega (arith, operands_counted xs)
 operands_counted (Constant i ∷ xs) = omega (arith, operands_counted xs)
 operands_counted (Variable ∷ xs) = omega (arith, operands_counted xs)
 
-pub leaves-counted : (xs : List Item) → length (leaf_list xs) ≡ count_of_leaves xs
-leaves-counted [] = refl
-leaves-counted (Operand a ∷ xs) = omega (arith, leaves-counted xs)
-leaves-counted (Unary o ∷ xs) = omega (arith, leaves-counted xs)
-leaves-counted (Binary o ∷ xs) = omega (arith, leaves-counted xs)
-leaves-counted (Constant i ∷ xs) = omega (arith, leaves-counted xs)
-leaves-counted (Variable ∷ xs) = omega (arith, leaves-counted xs)
+pub leaves_counted : (xs : List Item) → length (leaf_list xs) ≡ count_of_leaves xs
+leaves_counted [] = refl
+leaves_counted (Operand a ∷ xs) = omega (arith, leaves_counted xs)
+leaves_counted (Unary o ∷ xs) = omega (arith, leaves_counted xs)
+leaves_counted (Binary o ∷ xs) = omega (arith, leaves_counted xs)
+leaves_counted (Constant i ∷ xs) = omega (arith, leaves_counted xs)
+leaves_counted (Variable ∷ xs) = omega (arith, leaves_counted xs)
 
 operands_reading : (p : Shape) (xs : List Item) → operand_list (reading p ++ xs) ≡ operands_of p ++ operand_list xs
 operands_reading (operand_shape a) xs = refl
@@ -34,20 +34,20 @@ operands_reading (binary_shape o p q) xs =
     ap operand_list (append_assoc (reading p) (reading q) xs) ∙ operands_reading p (reading q ++ xs)
     ∙ ap (λ l. operands_of p ++ l) (operands_reading q xs) ∙ sym (append_assoc (operands_of p) (operands_of q) (operand_list xs))
 
-leaves-reading : (p : Shape) (xs : List Item) → leaf_list (reading p ++ xs) ≡ leaves_of p ++ leaf_list xs
-leaves-reading (operand_shape a) xs = refl
-leaves-reading (constant_shape i) xs = refl
-leaves-reading variable_shape xs = refl
-leaves-reading (unary_shape o p) xs = leaves-reading p xs
-leaves-reading (binary_shape o p q) xs =
-    ap leaf_list (append_assoc (reading p) (reading q) xs) ∙ leaves-reading p (reading q ++ xs)
-    ∙ ap (λ l. leaves_of p ++ l) (leaves-reading q xs) ∙ sym (append_assoc (leaves_of p) (leaves_of q) (leaf_list xs))
+leaves_reading : (p : Shape) (xs : List Item) → leaf_list (reading p ++ xs) ≡ leaves_of p ++ leaf_list xs
+leaves_reading (operand_shape a) xs = refl
+leaves_reading (constant_shape i) xs = refl
+leaves_reading variable_shape xs = refl
+leaves_reading (unary_shape o p) xs = leaves_reading p xs
+leaves_reading (binary_shape o p q) xs =
+    ap leaf_list (append_assoc (reading p) (reading q) xs) ∙ leaves_reading p (reading q ++ xs)
+    ∙ ap (λ l. leaves_of p ++ l) (leaves_reading q xs) ∙ sym (append_assoc (leaves_of p) (leaves_of q) (leaf_list xs))
 
 pub operands_read : (p : Shape) → operand_list (reading p) ≡ operands_of p
 operands_read p = ap operand_list (sym (append-nil (reading p))) ∙ operands_reading p [] ∙ append-nil (operands_of p)
 
 pub leaves_read : (p : Shape) → leaf_list (reading p) ≡ leaves_of p
-leaves_read p = ap leaf_list (sym (append-nil (reading p))) ∙ leaves-reading p [] ∙ append-nil (leaves_of p)
+leaves_read p = ap leaf_list (sym (append-nil (reading p))) ∙ leaves_reading p [] ∙ append-nil (leaves_of p)
 
 -- a leaf takes the first payload
 pub leaf_front : (x : Item) (xs : List Item) (ws : List ℕ) → ltb 0 (leaves_in x) ≡ true → 0 < length ws → admits_all (leaf_list (x ∷ xs)) ws ≡ (item_admits x (get_or ws 0 0) && admits_all (leaf_list xs) (rest_of ws))

@@ -20,15 +20,15 @@ module _ {C : Type 0} (k : Kind C) (row : List (Option C)) where
   abbrev pub SoFar : ℕ → Option (ℕ × C) → Type 0
   SoFar n o = MatchOption o (AbsentBelow n) (LeastBelow n)
 
-  at-or-below : {P : Type 0} (j n : ℕ) → j < n + 1 → (j < n → P) → (j ≡ n → P) → P
-  at-or-below {P} j n h f g = go (dec_lt j n)
+  at_or_below : {P : Type 0} (j n : ℕ) → j < n + 1 → (j < n → P) → (j ≡ n → P) → P
+  at_or_below {P} j n h f g = go (dec_lt j n)
     where
       go : Dec (j < n) → P
       go (yes l) = f l
       go (no m) = g (omega arith)
 
-  one-cost : (i : ℕ) (c d : C) → EntryIs row i c → EntryIs row i d → c ≡ d
-  one-cost i c d e f = let s : Some c ≡ Some d = sym e ∙ f in cc
+  one_cost : (i : ℕ) (c d : C) → EntryIs row i c → EntryIs row i d → c ≡ d
+  one_cost i c d e f = let s : Some c ≡ Some d = sym e ∙ f in cc
 
   none_some : (c : C) → None ≡ Some c → ⊥
   none_some c e = let z : ◌≡◌ {A = ℕ} 0 1 = cc in omega arith
@@ -38,11 +38,11 @@ module _ {C : Type 0} (k : Kind C) (row : List (Option C)) where
 
   -- an absent entry changes nothing
   passed : (n : ℕ) (o : Option (ℕ × C)) → get_or row n None ≡ None → SoFar n o → SoFar (n + 1) o
-  passed n None e s = λ j c h t. at-or-below j n h (λ l. s j c l t) (λ q. none_some c (sym e ∙ moved j n c q t))
+  passed n None e s = λ j c h t. at_or_below j n h (λ l. s j c l t) (λ q. none_some c (sym e ∙ moved j n c q t))
   passed n (Some p) e s = record {
     within = omega (arith, s.within);
     there = s.there;
-    least = λ j c h t. at-or-below j n h (λ l. s.least j c l t) (λ q. absurd (none_some c (sym e ∙ moved j n c q t)));
+    least = λ j c h t. at_or_below j n h (λ l. s.least j c l t) (λ q. absurd (none_some c (sym e ∙ moved j n c q t)));
     first = s.first;
   }
 
@@ -53,8 +53,8 @@ module _ {C : Type 0} (k : Kind C) (row : List (Option C)) where
       within = omega arith;
       there = e;
       least = λ j d h t.
-          at-or-below j n h (λ l. absurd (s j d l t))
-          (λ q. subst (λ x. k.at_most c x ≡ true) (one-cost n c d e (moved j n d q t)) (law.reflexive c));
+          at_or_below j n h (λ l. absurd (s j d l t))
+          (λ q. subst (λ x. k.at_most c x ≡ true) (one_cost n c d e (moved j n d q t)) (law.reflexive c));
       first = λ j d l t. absurd (s j d l t);
     }
 
@@ -64,8 +64,8 @@ module _ {C : Type 0} (k : Kind C) (row : List (Option C)) where
       within = omega (arith, s.within);
       there = s.there;
       least = λ j d h t.
-          at-or-below j n h (λ l. s.least j d l t)
-          (λ q. subst (λ x. k.at_most p.1 x ≡ true) (one-cost n c d e (moved j n d q t)) b);
+          at_or_below j n h (λ l. s.least j d l t)
+          (λ q. subst (λ x. k.at_most p.1 x ≡ true) (one_cost n c d e (moved j n d q t)) b);
       first = s.first;
     }
 
@@ -75,9 +75,9 @@ module _ {C : Type 0} (k : Kind C) (row : List (Option C)) where
       within = omega arith;
       there = e;
       least = λ j d h t.
-          at-or-below j n h
+          at_or_below j n h
           (λ l. law.transitive c p.1 d (⊎_elim (λ x. absurd (both_ways (k.at_most p.1 c) b x)) (λ y. y) (law.total p.1 c)) (s.least j d l t))
-          (λ q. subst (λ x. k.at_most c x ≡ true) (one-cost n c d e (moved j n d q t)) (law.reflexive c));
+          (λ q. subst (λ x. k.at_most c x ≡ true) (one_cost n c d e (moved j n d q t)) (law.reflexive c));
       first = λ j d l t.
           ⊎_elim
           (λ x. absurd (both_ways (k.at_most p.1 c) b (law.transitive p.1 d c (s.least j d l t) x)))
@@ -102,11 +102,11 @@ module _ {C : Type 0} (k : Kind C) (row : List (Option C)) where
       go (no m) = absurd (past n j c l (omega arith) t)
 
   -- all entries seen
-  pub none-there : (n : ℕ) → length row ≤ n → SoFar n None → AllAbsent row
-  none-there n l s j c t = inside n j c l t (λ h. s j c h t)
+  pub none_there : (n : ℕ) → length row ≤ n → SoFar n None → AllAbsent row
+  none_there n l s j c t = inside n j c l t (λ h. s j c h t)
 
-  pub first-least : (n : ℕ) (p : ℕ × C) → length row ≤ n → n ≤ length row → SoFar n (Some p) → FirstLeast k row p.0
-  first-least n p l m s = record {
+  pub first_least : (n : ℕ) (p : ℕ × C) → length row ≤ n → n ≤ length row → SoFar n (Some p) → FirstLeast k row p.0
+  first_least n p l m s = record {
     within = omega (arith, s.within);
     cost = p.1;
     there = s.there;

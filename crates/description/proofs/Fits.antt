@@ -54,9 +54,9 @@ module _ (ns more : List Nonterminal) where
   chain_more a None h k e = e
   chain_more a (Some b) h k e = ap (λ p. eqb p (place_letter (ns ++ more) b)) (place_more ns more a h) ∙ ap (eqb (place_letter ns a)) (place_more ns more b (k b refl)) ∙ e
 
-  emit-more : (r : Rule) (e : Emission) → r.left < length ns → operands_below (length ns) (items_of r.pattern) ≡ true → may_emit ns r e ≡ true → may_emit (ns ++ more) r e ≡ true
-  emit-more r Rename h k e = chain_more r.left (only_operand (items_of r.pattern)) h (λ b o. only_below (length ns) (items_of r.pattern) b k o) e
-  emit-more r (Instruction m) h k e = refl
+  emit_more : (r : Rule) (e : Emission) → r.left < length ns → operands_below (length ns) (items_of r.pattern) ≡ true → may_emit ns r e ≡ true → may_emit (ns ++ more) r e ≡ true
+  emit_more r Rename h k e = chain_more r.left (only_operand (items_of r.pattern)) h (λ b o. only_below (length ns) (items_of r.pattern) b k o) e
+  emit_more r (Instruction m) h k e = refl
 
   fits_more : (r : Rule) → rule_fits ns r ≡ true → rule_fits (ns ++ more) r ≡ true
   fits_more r e =
@@ -65,7 +65,7 @@ module _ (ns more : List Nonterminal) where
       let longer : length ns ≤ length (ns ++ more) = omega (arith, length-append ns more) in
       and_from _ _ (below_more r.left _ _ longer first.0)
       (and_from _ _ (operands_more _ _ (items_of r.pattern) longer second.0)
-      (emit-more r r.emission (ltb-true _ _ first.0) second.0 second.1))
+      (emit_more r r.emission (ltb-true _ _ first.0) second.0 second.1))
 
   pub all_more : (rs : List Rule) → all_fit ns rs ≡ true → all_fit (ns ++ more) rs ≡ true
   all_more [] e = refl

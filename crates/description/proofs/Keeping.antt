@@ -19,18 +19,18 @@ use Rattle.description.specs.Laws.{OperandDeclared, RuleKeeps, Keeps, AllKeep}
 use Rattle.description.proofs.Names.{distinct_from}
 use Rattle.description.proofs.Counts.{count_of_names, count_of_rules}
 
-operand-declared : (n : ℕ) (x : Item) → operand_below n x ≡ true → OperandDeclared n x
-operand-declared n (Operand a) e = ltb-true a n e
-operand-declared n (Unary o) e = tt
-operand-declared n (Binary o) e = tt
-operand-declared n (Constant i) e = tt
-operand-declared n Variable e = tt
+operand_declared : (n : ℕ) (x : Item) → operand_below n x ≡ true → OperandDeclared n x
+operand_declared n (Operand a) e = ltb-true a n e
+operand_declared n (Unary o) e = tt
+operand_declared n (Binary o) e = tt
+operand_declared n (Constant i) e = tt
+operand_declared n Variable e = tt
 
 operands_declared : (n : ℕ) (xs : List Item) → operands_below n xs ≡ true → All (OperandDeclared n) xs
 operands_declared n [] e = tt
 operands_declared n (x ∷ xs) e =
     let both = and_parts (operand_below n x) (operands_below n xs) e in
-    (operand-declared n x both.0, operands_declared n xs both.1)
+    (operand_declared n x both.0, operands_declared n xs both.1)
 
 -- a pattern that is one operand, of the same PLACE
 chain_means : (ns : List Nonterminal) (a : ℕ) (xs : List Item) → chain_at_place ns a (only_operand xs) ≡ true → (b : ℕ) × (xs ≡ Operand b ∷ []) × (place_letter ns a ≡ place_letter ns b)

@@ -49,8 +49,8 @@ module _ (t : List ℕ) (n i : ℕ) (xs : List Nonterminal) (d : Nonterminal) (h
   here : drop i (take n xs) ≡ get_or xs i d ∷ drop (i + 1) (take n xs)
   here = rest_at n i xs d h l
 
-  pub number-here : text_of (get_or xs i d) ≡ t → number_from i t (drop i (take n xs)) ≡ Some i
-  number-here e = ap (number_from i t) here ∙ cond-true (same_text (text_of (get_or xs i d)) t) (Some i) _ (same_from _ _ e)
+  pub number_here : text_of (get_or xs i d) ≡ t → number_from i t (drop i (take n xs)) ≡ Some i
+  number_here e = ap (number_from i t) here ∙ cond-true (same_text (text_of (get_or xs i d)) t) (Some i) _ (same_from _ _ e)
 
   pub number_passed : (text_of (get_or xs i d) ≡ t → ⊥) → number_from (i + 1) t (drop (i + 1) (take n xs)) ≡ number_from i t (drop i (take n xs))
   number_passed f =

@@ -9,7 +9,7 @@ use Rattle.lexer.specs.Bytes.{longest_run, base_ten, is_digit, is_lower, is_capi
 use Rattle.lexer.specs.Tokens.{Front, token_of, number_token, name_or_fault, dots_or_fault, mark_or_fault, lexical_place}
 use Rattle.lexer.specs.Meanings.{RunOf, Spells, Denotes, Missing}
 use Rattle.lexer.specs.Tilings.{is_end}
-use Rattle.lexer.proofs.Fronts.{digit-first, lower-first, capital-first}
+use Rattle.lexer.proofs.Fronts.{digit_first, lower_first, capital_first}
 use Rattle.lexer.proofs.Longest.{run_of, run_is}
 
 spelt_one : (w : ℕ) (bs : List ℕ) (n : ℕ) → Spells (w ∷ []) bs n → (after : List ℕ) × (bs ≡ w ∷ after) × (n ≡ 1)
@@ -29,40 +29,40 @@ spelt_two w (b ∷ d ∷ bs) n s =
     (bs, (λ i. first i ∷ second i ∷ bs), s.0)
 
 module _ (p : ℕ) where
-  number-token-of : (bs : List ℕ) (n v : ℕ) → RunOf is_digit bs n → 0 < n → base_ten (take n bs) ≡ v → token_of p bs ≡ Ok (number_token v, n)
-  number-token-of [] n v r h e = absurd (omega (arith, r.inside))
-  number-token-of (b ∷ bs) n v r h e =
-      digit-first p b bs (r.passes 0 h)
+  number_token_of : (bs : List ℕ) (n v : ℕ) → RunOf is_digit bs n → 0 < n → base_ten (take n bs) ≡ v → token_of p bs ≡ Ok (number_token v, n)
+  number_token_of [] n v r h e = absurd (omega (arith, r.inside))
+  number_token_of (b ∷ bs) n v r h e =
+      digit_first p b bs (r.passes 0 h)
       ∙ ap (λ m. Ok (number_token (base_ten (take m (b ∷ bs))), m)) (run_is is_digit (b ∷ bs) n r)
       ∙ ap (λ w. Ok (number_token w, n)) e
 
-  pub token-of-denoted : (t : Token) (bs : List ℕ) (n : ℕ) → Denotes t bs n → token_of p bs ≡ Ok (t, n)
-  token-of-denoted LineEnd bs n d = let s = spelt_one 10 bs n d in ap (token_of p) s.1 ∙ ap (λ m. Ok (LineEnd, m)) (sym s.2)
-  token-of-denoted (Number v) bs n d =
-      number-token-of bs n v d.0 d.1 d.2 ∙ ap (λ t. Ok (t, n)) (cond-true (ltb v (2 ^ 32)) (Number v) HugeNumber (lt-ltb v (2 ^ 32) d.3))
-  token-of-denoted HugeNumber bs n d =
+  pub token_of_denoted : (t : Token) (bs : List ℕ) (n : ℕ) → Denotes t bs n → token_of p bs ≡ Ok (t, n)
+  token_of_denoted LineEnd bs n d = let s = spelt_one 10 bs n d in ap (token_of p) s.1 ∙ ap (λ m. Ok (LineEnd, m)) (sym s.2)
+  token_of_denoted (Number v) bs n d =
+      number_token_of bs n v d.0 d.1 d.2 ∙ ap (λ t. Ok (t, n)) (cond-true (ltb v (2 ^ 32)) (Number v) HugeNumber (lt-ltb v (2 ^ 32) d.3))
+  token_of_denoted HugeNumber bs n d =
       let v = base_ten (take n bs) in
-      number-token-of bs n v d.0 d.1 refl ∙ ap (λ t. Ok (t, n)) (cond-false (ltb v (2 ^ 32)) (Number v) HugeNumber (le-ltb v (2 ^ 32) d.2))
-  token-of-denoted Name [] n d = absurd (omega (arith, d.0.inside))
-  token-of-denoted Name (b ∷ bs) n d =
-      lower-first p b bs d.3
+      number_token_of bs n v d.0 d.1 refl ∙ ap (λ t. Ok (t, n)) (cond-false (ltb v (2 ^ 32)) (Number v) HugeNumber (le-ltb v (2 ^ 32) d.2))
+  token_of_denoted Name [] n d = absurd (omega (arith, d.0.inside))
+  token_of_denoted Name (b ∷ bs) n d =
+      lower_first p b bs d.3
       ∙ ap (name_or_fault p) (run_is is_lower_or_digit (b ∷ bs) n d.0)
       ∙ cond-true (leb n 8) (Ok (Name, n)) (Err (LongName p)) (le-leb n 8 d.2)
-  token-of-denoted Capitals [] n d = absurd (omega (arith, d.0.inside))
-  token-of-denoted Capitals (b ∷ bs) n d =
-      capital-first p b bs (d.0.passes 0 d.1) ∙ ap (λ m. Ok (Capitals, m)) (run_is is_capital (b ∷ bs) n d.0)
-  token-of-denoted Percent [] n d = absurd (omega arith)
-  token-of-denoted Percent (b ∷ bs) n d =
+  token_of_denoted Capitals [] n d = absurd (omega (arith, d.0.inside))
+  token_of_denoted Capitals (b ∷ bs) n d =
+      capital_first p b bs (d.0.passes 0 d.1) ∙ ap (λ m. Ok (Capitals, m)) (run_is is_capital (b ∷ bs) n d.0)
+  token_of_denoted Percent [] n d = absurd (omega arith)
+  token_of_denoted Percent (b ∷ bs) n d =
       let whole : 1 + longest_run is_lower_or_digit bs ≡ n = omega (arith, run_is is_lower_or_digit bs (n - 1) d.2) in
       ap (λ x. token_of p (x ∷ bs)) d.0 ∙ ap (λ m. Ok (Percent, m)) whole
-  token-of-denoted Dots bs n d = let s = spelt_two 46 bs n d in ap (token_of p) s.1 ∙ ap (λ m. Ok (Dots, m)) (sym s.2)
-  token-of-denoted Colon bs n d = let s = spelt_one 58 bs n d in ap (token_of p) s.1 ∙ ap (λ m. Ok (Colon, m)) (sym s.2)
-  token-of-denoted Open bs n d = let s = spelt_one 40 bs n d in ap (token_of p) s.1 ∙ ap (λ m. Ok (Open, m)) (sym s.2)
-  token-of-denoted Close bs n d = let s = spelt_one 41 bs n d in ap (token_of p) s.1 ∙ ap (λ m. Ok (Close, m)) (sym s.2)
-  token-of-denoted Comma bs n d = let s = spelt_one 44 bs n d in ap (token_of p) s.1 ∙ ap (λ m. Ok (Comma, m)) (sym s.2)
-  token-of-denoted Equals bs n d = let s = spelt_one 61 bs n d in ap (token_of p) s.1 ∙ ap (λ m. Ok (Equals, m)) (sym s.2)
-  token-of-denoted Minus bs n d = let s = spelt_one 45 bs n d in ap (token_of p) s.1 ∙ ap (λ m. Ok (Minus, m)) (sym s.2)
-  token-of-denoted End bs n d = ap (token_of p) d.0 ∙ ap (λ m. Ok (End, m)) (sym d.1)
+  token_of_denoted Dots bs n d = let s = spelt_two 46 bs n d in ap (token_of p) s.1 ∙ ap (λ m. Ok (Dots, m)) (sym s.2)
+  token_of_denoted Colon bs n d = let s = spelt_one 58 bs n d in ap (token_of p) s.1 ∙ ap (λ m. Ok (Colon, m)) (sym s.2)
+  token_of_denoted Open bs n d = let s = spelt_one 40 bs n d in ap (token_of p) s.1 ∙ ap (λ m. Ok (Open, m)) (sym s.2)
+  token_of_denoted Close bs n d = let s = spelt_one 41 bs n d in ap (token_of p) s.1 ∙ ap (λ m. Ok (Close, m)) (sym s.2)
+  token_of_denoted Comma bs n d = let s = spelt_one 44 bs n d in ap (token_of p) s.1 ∙ ap (λ m. Ok (Comma, m)) (sym s.2)
+  token_of_denoted Equals bs n d = let s = spelt_one 61 bs n d in ap (token_of p) s.1 ∙ ap (λ m. Ok (Equals, m)) (sym s.2)
+  token_of_denoted Minus bs n d = let s = spelt_one 45 bs n d in ap (token_of p) s.1 ∙ ap (λ m. Ok (Minus, m)) (sym s.2)
+  token_of_denoted End bs n d = ap (token_of p) d.0 ∙ ap (λ m. Ok (End, m)) (sym d.1)
 
 -- what is known of the bytes bs, from place p on, at a fault
 abbrev Fault : ℕ → List ℕ → LexicalFault → Type 0
@@ -76,8 +76,8 @@ some_run : (test : ℕ → Bool) (b : ℕ) (bs : List ℕ) → test b ≡ true �
 some_run test b bs h = omega (arith, cond-true (test b) (1 + longest_run test bs) 0 h)
 
 module _ (p b : ℕ) (after : List ℕ) where
-  number-says : is_digit b ≡ true → Says p (b ∷ after) (Ok (number_token (base_ten (take (longest_run is_digit (b ∷ after)) (b ∷ after))), longest_run is_digit (b ∷ after)))
-  number-says h =
+  number_says : is_digit b ≡ true → Says p (b ∷ after) (Ok (number_token (base_ten (take (longest_run is_digit (b ∷ after)) (b ∷ after))), longest_run is_digit (b ∷ after)))
+  number_says h =
       let bs : List ℕ = b ∷ after in
       let n = longest_run is_digit bs in
       let v = base_ten (take n bs) in
@@ -86,16 +86,16 @@ module _ (p b : ℕ) (after : List ℕ) where
       (λ lt. (run_of is_digit bs, some, refl, ltb-true v (2 ^ 32) lt))
       (λ ge. (run_of is_digit bs, some, ltb-false v (2 ^ 32) ge))
 
-  name-says : is_lower b ≡ true → Says p (b ∷ after) (name_or_fault p (longest_run is_lower_or_digit (b ∷ after)))
-  name-says h =
+  name_says : is_lower b ≡ true → Says p (b ∷ after) (name_or_fault p (longest_run is_lower_or_digit (b ∷ after)))
+  name_says h =
       let bs : List ℕ = b ∷ after in
       let n = longest_run is_lower_or_digit bs in
       cond_both (leb n 8) (Ok (Name, n)) (Err (LongName p)) (Says p bs)
       (λ short. (run_of is_lower_or_digit bs, some_run is_lower_or_digit b after (or_left (is_lower b) (is_digit b) h), leb-true n 8 short, h))
       (λ long. (refl, omega arith, (h, λ m r. omega (arith, run_is is_lower_or_digit bs m r, leb-false n 8 long))))
 
-  mark-says : is_lower b ≡ false → Says p (b ∷ after) (mark_or_fault p b)
-  mark-says l =
+  mark_says : is_lower b ≡ false → Says p (b ∷ after) (mark_or_fault p b)
+  mark_says l =
       let one : (w : ℕ) → eqb b w ≡ true → Spells (w ∷ []) (b ∷ after) 1 = λ w h. (refl, ap (λ x. x ∷ []) (eqb-true b w h)) in
       cond_both (eqb b 10) _ _ (Says p (b ∷ after)) (one 10) (λ _.
       cond_both (eqb b 58) _ _ (Says p (b ∷ after)) (one 58) (λ _.
@@ -105,8 +105,8 @@ module _ (p b : ℕ) (after : List ℕ) where
       cond_both (eqb b 61) _ _ (Says p (b ∷ after)) (one 61) (λ _.
       cond_both (eqb b 45) _ _ (Says p (b ∷ after)) (one 45) (λ _. (refl, omega arith, l))))))))
 
-  percent-says : eqb b 37 ≡ true → Says p (b ∷ after) (Ok (Percent, 1 + longest_run is_lower_or_digit after))
-  percent-says h =
+  percent_says : eqb b 37 ≡ true → Says p (b ∷ after) (Ok (Percent, 1 + longest_run is_lower_or_digit after))
+  percent_says h =
       let n = longest_run is_lower_or_digit after in
       let back : n ≡ 1 + n - 1 = omega arith in
       (eqb-true b 37 h, omega arith, subst (RunOf is_lower_or_digit after) back (run_of is_lower_or_digit after))
@@ -121,25 +121,25 @@ dots_say p b (d ∷ after) h l =
 token_says : (p : ℕ) (bs : List ℕ) → Says p bs (token_of p bs)
 token_says p [] = (refl, refl)
 token_says p (b ∷ after) =
-    cond_both (is_digit b) _ _ (Says p (b ∷ after)) (number-says p b after) (λ _.
-    cond_both (is_lower b) _ _ (Says p (b ∷ after)) (name-says p b after) (λ l.
+    cond_both (is_digit b) _ _ (Says p (b ∷ after)) (number_says p b after) (λ _.
+    cond_both (is_lower b) _ _ (Says p (b ∷ after)) (name_says p b after) (λ l.
     cond_both (is_capital b) _ _ (Says p (b ∷ after)) (λ h. (run_of is_capital (b ∷ after), some_run is_capital b after h)) (λ _.
-    cond_both (eqb b 37) _ _ (Says p (b ∷ after)) (percent-says p b after) (λ _.
+    cond_both (eqb b 37) _ _ (Says p (b ∷ after)) (percent_says p b after) (λ _.
     cond_both (eqb b 46) _ _ (Says p (b ∷ after)) (λ h. dots_say p b after (eqb-true b 46 h) l) (λ _.
-    mark-says p b after l)))))
+    mark_says p b after l)))))
 
 module _ (p : ℕ) (bs : List ℕ) where
-  pub denoted-by-token : (t : Token) (n : ℕ) → token_of p bs ≡ Ok (t, n) → Denotes t bs n
-  denoted-by-token t n e = subst (Says p bs) e (token_says p bs)
+  pub denoted_by_token : (t : Token) (n : ℕ) → token_of p bs ≡ Ok (t, n) → Denotes t bs n
+  denoted_by_token t n e = subst (Says p bs) e (token_says p bs)
 
   -- at a fault no token stands there
-  pub missing-by-fault : (f : LexicalFault) → token_of p bs ≡ Err f → (lexical_place f ≡ p) × (0 < length bs) × Missing f bs
-  missing-by-fault (StrayByte q) e =
+  pub missing_by_fault : (f : LexicalFault) → token_of p bs ≡ Err f → (lexical_place f ≡ p) × (0 < length bs) × Missing f bs
+  missing_by_fault (StrayByte q) e =
       let told = subst (Says p bs) e (token_says p bs) in
       let none : (t : Token) (n : ℕ) → Denotes t bs n → ⊥ = λ t n d.
-      let is = token-of-denoted p t bs n d in let z : ◌≡◌ {A = ℕ} 0 1 = cc in omega arith in
+      let is = token_of_denoted p t bs n d in let z : ◌≡◌ {A = ℕ} 0 1 = cc in omega arith in
       (told.0, told.1, (none, told.2))
-  missing-by-fault (LongName q) e = subst (Says p bs) e (token_says p bs)
+  missing_by_fault (LongName q) e = subst (Says p bs) e (token_says p bs)
 
 -- the other way round: what is missing there makes the fault
 pub fault_by_missing : (p : ℕ) (bs : List ℕ) (f : LexicalFault) → lexical_place f ≡ p → Missing f bs → token_of p bs ≡ Err f
@@ -152,7 +152,7 @@ fault_by_missing p bs (StrayByte q) at m = go (token_of p bs) refl (token_says p
 fault_by_missing p [] (LongName q) at m = absurd (false≢true m.0)
 fault_by_missing p (b ∷ bs) (LongName q) at m =
     let n = longest_run is_lower_or_digit (b ∷ bs) in
-    lower-first p b bs m.0
+    lower_first p b bs m.0
     ∙ cond-false (leb n 8) (Ok (Name, n)) (Err (LongName p)) (lt-leb n 8 (m.1 n (run_of is_lower_or_digit (b ∷ bs))))
     ∙ ap (λ i. Err (LongName i)) (sym at)
 

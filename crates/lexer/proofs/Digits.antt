@@ -17,5 +17,5 @@ module _ (n i : ℕ) (ds : List ℕ) (same : read_on n (drop i ds) ≡ base_ten 
   read_all h = sym (at_drop_all (read_on n) ds i h) ∙ same
 
   -- what has been read with one digit more is at most the whole
-  pub read-within : i < length ds → n * 10 + (get_or ds i 0 - 48) ≤ base_ten ds
-  read-within h = omega (arith, read_more h, read_on_grows (n * 10 + (get_or ds i 0 - 48)) (drop (i + 1) ds))
+  pub read_within : i < length ds → n * 10 + (get_or ds i 0 - 48) ≤ base_ten ds
+  read_within h = omega (arith, read_more h, read_on_grows (n * 10 + (get_or ds i 0 - 48)) (drop (i + 1) ds))

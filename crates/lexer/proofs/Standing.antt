@@ -8,7 +8,7 @@ use Rattle.lexer.specs.Bytes.{is_space, longest_run}
 use Rattle.lexer.specs.Tokens.{Front, token_of, token_at, placed, after_spaces, lexical_place}
 use Rattle.lexer.specs.Meanings.{RunOf, Denotes, SpacesOnly, Missing, NextIs, NextFails, ReadsWhatStands, FaultsWhereNoneStands, FoundAgain}
 use Rattle.lexer.proofs.Longest.{run_of, run_is}
-use Rattle.lexer.proofs.Denoted.{token-of-denoted, denoted-by-token, missing-by-fault, fault_by_missing, denoted_inside}
+use Rattle.lexer.proofs.Denoted.{token_of_denoted, denoted_by_token, missing_by_fault, fault_by_missing, denoted_inside}
 
 is_32 : (b : ℕ) → is_space b ≡ true → b ≡ 32
 is_32 b h = eqb-true b 32 h
@@ -17,24 +17,24 @@ not_32 : (b : ℕ) → (b ≡ 32 → ⊥) → is_space b ≡ false
 not_32 b h = ne_eqb b 32 h
 
 module _ (bs : List ℕ) (o : ℕ) where
-  spaces-to : o ≤ length bs → SpacesOnly bs o (after_spaces bs o)
-  spaces-to h = (
+  spaces_to : o ≤ length bs → SpacesOnly bs o (after_spaces bs o)
+  spaces_to h = (
     omega arith,
     λ k low high.
         let j : o + (k - o) ≡ k = omega arith in
         ap (λ i. get_or bs i 0) (sym j) ∙ sym (get_or-drop o bs (k - o) 0) ∙ is_32 _ ((run_of is_space (drop o bs)).passes (k - o) (omega arith)),
   )
 
-  after-spaces-within : o ≤ length bs → after_spaces bs o ≤ length bs
-  after-spaces-within h = omega (arith, (run_of is_space (drop o bs)).inside, length-drop o bs)
+  after_spaces_within : o ≤ length bs → after_spaces bs o ≤ length bs
+  after_spaces_within h = omega (arith, (run_of is_space (drop o bs)).inside, length-drop o bs)
 
-  after-spaces-stops : after_spaces bs o < length bs → get_or bs (after_spaces bs o) 0 ≡ 32 → ⊥
-  after-spaces-stops h e =
+  after_spaces_stops : after_spaces bs o < length bs → get_or bs (after_spaces bs o) 0 ≡ 32 → ⊥
+  after_spaces_stops h e =
       both_ways _ ((run_of is_space (drop o bs)).stops (omega (arith, length-drop o bs)))
       (ap is_space (get_or-drop o bs (longest_run is_space (drop o bs)) 0) ∙ eq-eqb _ 32 e)
 
-  after-spaces-is : (p : ℕ) → SpacesOnly bs o p → p ≤ length bs → (p < length bs → get_or bs p 0 ≡ 32 → ⊥) → after_spaces bs o ≡ p
-  after-spaces-is p s h stop =
+  after_spaces_is : (p : ℕ) → SpacesOnly bs o p → p ≤ length bs → (p < length bs → get_or bs p 0 ≡ 32 → ⊥) → after_spaces bs o ≡ p
+  after_spaces_is p s h stop =
       let back : o + (p - o) ≡ p = omega (arith, s.0) in
       let run : RunOf is_space (drop o bs) (p - o) = record {
         inside = omega (arith, length-drop o bs);
@@ -54,61 +54,61 @@ placed_err q (Ok x) f e = let z : ◌≡◌ {A = ℕ} 0 1 = cc in absurd (omega 
 placed_err q (Err g) f e = cc
 
 -- a token begins with no space
-starts-after_spaces : (t : Token) (bs : List ℕ) (n : ℕ) → Denotes t bs n → 0 < length bs → get_or bs 0 0 ≡ 32 → ⊥
-starts-after_spaces t [] n d h e = omega arith
-starts-after_spaces t (b ∷ bs) n d h e =
-    let is = sym (ap (λ x. token_of 0 (x ∷ bs)) e) ∙ token-of-denoted 0 t (b ∷ bs) n d in let z : ◌≡◌ {A = ℕ} 0 1 = cc in omega arith
+starts_after_spaces : (t : Token) (bs : List ℕ) (n : ℕ) → Denotes t bs n → 0 < length bs → get_or bs 0 0 ≡ 32 → ⊥
+starts_after_spaces t [] n d h e = omega arith
+starts_after_spaces t (b ∷ bs) n d h e =
+    let is = sym (ap (λ x. token_of 0 (x ∷ bs)) e) ∙ token_of_denoted 0 t (b ∷ bs) n d in let z : ◌≡◌ {A = ℕ} 0 1 = cc in omega arith
 
 first_of_drop : (bs : List ℕ) (p : ℕ) → get_or (drop p bs) 0 0 ≡ get_or bs p 0
 first_of_drop bs p = get_or-drop p bs 0 0 ∙ ap (λ i. get_or bs i 0) (add-zero p)
 
 module _ (bs : List ℕ) (o : ℕ) (h : o ≤ length bs) where
-  pub stands-where-read : (t : Token) (p n : ℕ) → token_at bs o ≡ Ok (t, (p, n)) → NextIs bs o t p n
-  stands-where-read t p n e =
+  pub stands_where_read : (t : Token) (p n : ℕ) → token_at bs o ≡ Ok (t, (p, n)) → NextIs bs o t p n
+  stands_where_read t p n e =
       let q = after_spaces bs o in
       let parts = placed_ok q (token_of q (drop q bs)) t p n e in
-      let there = subst (λ i. Denotes t (drop i bs) n) parts.0 (denoted-by-token q (drop q bs) t n parts.1) in
+      let there = subst (λ i. Denotes t (drop i bs) n) parts.0 (denoted_by_token q (drop q bs) t n parts.1) in
       record {
-        spaces = subst (SpacesOnly bs o) parts.0 (spaces-to bs o h);
-        inside = omega (arith, parts.0, after-spaces-within bs o h, denoted_inside t (drop p bs) n there, length-drop p bs);
+        spaces = subst (SpacesOnly bs o) parts.0 (spaces_to bs o h);
+        inside = omega (arith, parts.0, after_spaces_within bs o h, denoted_inside t (drop p bs) n there, length-drop p bs);
         denotes = there;
       }
 
-  pub read-where-stands : (t : Token) (p n : ℕ) → NextIs bs o t p n → token_at bs o ≡ Ok (t, (p, n))
-  read-where-stands t p n s =
-      let here = after-spaces-is bs o p s.spaces (omega (arith, s.inside))
-      (λ lt e. starts-after_spaces t (drop p bs) n s.denotes (omega (arith, length-drop p bs)) (first_of_drop bs p ∙ e)) in
-      ap (λ i. placed i (token_of i (drop i bs))) here ∙ ap (placed p) (token-of-denoted p t (drop p bs) n s.denotes)
+  pub read_where_stands : (t : Token) (p n : ℕ) → NextIs bs o t p n → token_at bs o ≡ Ok (t, (p, n))
+  read_where_stands t p n s =
+      let here = after_spaces_is bs o p s.spaces (omega (arith, s.inside))
+      (λ lt e. starts_after_spaces t (drop p bs) n s.denotes (omega (arith, length-drop p bs)) (first_of_drop bs p ∙ e)) in
+      ap (λ i. placed i (token_of i (drop i bs))) here ∙ ap (placed p) (token_of_denoted p t (drop p bs) n s.denotes)
 
-  pub fails-where-told : (f : LexicalFault) → token_at bs o ≡ Err f → NextFails bs o f
-  fails-where-told f e =
+  pub fails_where_told : (f : LexicalFault) → token_at bs o ≡ Err f → NextFails bs o f
+  fails_where_told f e =
       let q = after_spaces bs o in
-      let none = missing-by-fault q (drop q bs) f (placed_err q (token_of q (drop q bs)) f e) in
+      let none = missing_by_fault q (drop q bs) f (placed_err q (token_of q (drop q bs)) f e) in
       let at = sym none.0 in
       let lt : q < length bs = omega (arith, none.1, length-drop q bs) in
       record {
-        spaces = subst (SpacesOnly bs o) at (spaces-to bs o h);
+        spaces = subst (SpacesOnly bs o) at (spaces_to bs o h);
         inside = omega arith;
-        past_spaces = subst (λ i. get_or bs i 0 ≡ 32 → ⊥) at (after-spaces-stops bs o lt);
+        past_spaces = subst (λ i. get_or bs i 0 ≡ 32 → ⊥) at (after_spaces_stops bs o lt);
         missing = subst (λ i. Missing f (drop i bs)) at none.2;
       }
 
-  pub told-where-fails : (f : LexicalFault) → NextFails bs o f → token_at bs o ≡ Err f
-  told-where-fails f s =
+  pub told_where_fails : (f : LexicalFault) → NextFails bs o f → token_at bs o ≡ Err f
+  told_where_fails f s =
       let p = lexical_place f in
-      let here = after-spaces-is bs o p s.spaces (omega (arith, s.inside)) (λ _. s.past_spaces) in
+      let here = after_spaces_is bs o p s.spaces (omega (arith, s.inside)) (λ _. s.past_spaces) in
       ap (λ i. placed i (token_of i (drop i bs))) here ∙ ap (placed p) (fault_by_missing p (drop p bs) f refl s.missing)
 
 pub reads_what_stands_lem : ReadsWhatStands
-reads_what_stands_lem bs o h t p n = (stands-where-read bs o h t p n, read-where-stands bs o h t p n)
+reads_what_stands_lem bs o h t p n = (stands_where_read bs o h t p n, read_where_stands bs o h t p n)
 
 pub faults_where_none_stands_lem : FaultsWhereNoneStands
-faults_where_none_stands_lem bs o h f = (fails-where-told bs o h f, told-where-fails bs o h f)
+faults_where_none_stands_lem bs o h f = (fails_where_told bs o h f, told_where_fails bs o h f)
 
 pub found_again_lem : FoundAgain
 found_again_lem bs o h t p n e =
-    let s = stands-where-read bs o h t p n e in
-    read-where-stands bs p (omega (arith, s.inside)) t p n
+    let s = stands_where_read bs o h t p n e in
+    read_where_stands bs p (omega (arith, s.inside)) t p n
     (record { spaces = (omega arith, λ k low high. absurd (omega arith)); inside = s.inside; denotes = s.denotes })
 
 -- a reading as the code does it: s spaces are passed, and r is what the rest of the text begins with
@@ -118,5 +118,5 @@ module _ (bs : List ℕ) (o s : ℕ) (r : Front) (run : s ≡ longest_run is_spa
       ap (placed (o + s)) (front ∙ ap (token_of (o + s)) (take_rest bs (o + s)))
       ∙ ap (λ p. placed p (token_of p (drop p bs))) (ap (λ n. o + n) (run ∙ ap (longest_run is_space) (take_rest bs o)))
 
-  pub answer-inside : o ≤ length bs → (t : Token) (n : ℕ) → r ≡ Ok (t, n) → o + s + n ≤ length bs
-  answer-inside h t n e = (stands-where-read bs o h t (o + s) n (sym answered ∙ ap (placed (o + s)) e)).inside
+  pub answer_inside : o ≤ length bs → (t : Token) (n : ℕ) → r ≡ Ok (t, n) → o + s + n ≤ length bs
+  answer_inside h t n e = (stands_where_read bs o h t (o + s) n (sym answered ∙ ap (placed (o + s)) e)).inside

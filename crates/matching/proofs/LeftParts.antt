@@ -25,25 +25,25 @@ roots_append n rs (x ∷ xs) ys =
     let same : suc n + length xs ≡ n + suc (length xs) = omega arith in
     roots_append (suc n) (roots_after n rs x) xs ys ∙ ap (λ k. roots_from k (roots_from (suc n) (roots_after n rs x) xs) ys) same
 
-pub left-append : (n : ℕ) (rs : List ℕ) (xs ys : List Node) → left_parts_from n rs (xs ++ ys) ≡ left_parts_from n rs xs ++ left_parts_from (n + length xs) (roots_from n rs xs) ys
-left-append n rs [] ys = let same : n ≡ n + 0 = omega arith in ap (λ k. left_parts_from k rs ys) same
-left-append n rs (x ∷ xs) ys =
+pub left_append : (n : ℕ) (rs : List ℕ) (xs ys : List Node) → left_parts_from n rs (xs ++ ys) ≡ left_parts_from n rs xs ++ left_parts_from (n + length xs) (roots_from n rs xs) ys
+left_append n rs [] ys = let same : n ≡ n + 0 = omega arith in ap (λ k. left_parts_from k rs ys) same
+left_append n rs (x ∷ xs) ys =
     let same : suc n + length xs ≡ n + suc (length xs) = omega arith in
     ap (λ l. left_part rs x ∷ l)
-    (left-append (suc n) (roots_after n rs x) xs ys
+    (left_append (suc n) (roots_after n rs x) xs ys
     ∙ ap (λ k. left_parts_from (suc n) (roots_after n rs x) xs ++ left_parts_from k (roots_from (suc n) (roots_after n rs x) xs) ys) same)
 
-length-left : (n : ℕ) (rs : List ℕ) (xs : List Node) → length (left_parts_from n rs xs) ≡ length xs
-length-left n rs [] = refl
-length-left n rs (x ∷ xs) = ap suc (length-left (suc n) (roots_after n rs x) xs)
+length_left : (n : ℕ) (rs : List ℕ) (xs : List Node) → length (left_parts_from n rs xs) ≡ length xs
+length_left n rs [] = refl
+length_left n rs (x ∷ xs) = ap suc (length_left (suc n) (roots_after n rs x) xs)
 
 -- one node more
 module _ (xs : List Node) (i : ℕ) (h : i < length xs) where
-  pub left-more : left_parts (take (i + 1) xs) ≡ left_parts (take i xs) ++ left_part (roots_from 0 [] (take i xs)) (node_at xs i) ∷ []
-  left-more = ap left_parts (take_more xs i _ h) ∙ left-append 0 [] (take i xs) (node_at xs i ∷ [])
+  pub left_more : left_parts (take (i + 1) xs) ≡ left_parts (take i xs) ++ left_part (roots_from 0 [] (take i xs)) (node_at xs i) ∷ []
+  left_more = ap left_parts (take_more xs i _ h) ∙ left_append 0 [] (take i xs) (node_at xs i ∷ [])
 
-  pub roots-more : length (take i xs) ≡ i → roots_from 0 [] (take (i + 1) xs) ≡ roots_after i (roots_from 0 [] (take i xs)) (node_at xs i)
-  roots-more e =
+  pub roots_more : length (take i xs) ≡ i → roots_from 0 [] (take (i + 1) xs) ≡ roots_after i (roots_from 0 [] (take i xs)) (node_at xs i)
+  roots_more e =
       let same : 0 + length (take i xs) ≡ i = omega arith in
       ap (roots_from 0 []) (take_more xs i _ h) ∙ roots_append 0 [] (take i xs) (node_at xs i ∷ [])
       ∙ ap (λ k. roots_after k (roots_from 0 [] (take i xs)) (node_at xs i)) same
@@ -81,11 +81,11 @@ roots_postfix (two o t u) n rs =
 -- what stands at a node
 left_at : (ys : List Node) (x : Node) (zs : List Node) (i : ℕ) → length ys ≡ i → get_or (left_parts (ys ++ x ∷ zs)) i 0 ≡ left_part (roots_from 0 [] ys) x
 left_at ys x zs i e =
-    ap (λ l. get_or l i 0) (left-append 0 [] ys (x ∷ zs))
-    ∙ get_or_at (left_parts ys) _ _ 0 i (length-left 0 [] ys ∙ e)
+    ap (λ l. get_or l i 0) (left_append 0 [] ys (x ∷ zs))
+    ∙ get_or_at (left_parts ys) _ _ 0 i (length_left 0 [] ys ∙ e)
 
-two-left : (xs : List Node) (i n : ℕ) (o : Binary) (t u : Tree) → SubtreeAt xs i (two o t u) n → get_or (left_parts xs) i 0 ≡ root_of n t
-two-left xs i n o t u s =
+two_left : (xs : List Node) (i n : ℕ) (o : Binary) (t u : Tree) → SubtreeAt xs i (two o t u) n → get_or (left_parts xs) i 0 ≡ root_of n t
+two_left xs i n o t u s =
     let b = s.before in
     let x = node_of (Two o) 0 in
     let ys = (b ++ postfix t) ++ postfix u in
@@ -108,7 +108,7 @@ two-left xs i n o t u s =
 pub parts_are_roots_lem : PartsAreRoots
 parts_are_roots_lem xs i n = (
   λ o t u s. (
-    two-left xs i n o t u s,
+    two_left xs i n o t u s,
     let is = root_is xs i (two o t u) n s in
         omega arith,
   ),

@@ -73,31 +73,31 @@ matched (binary_shape o p q) t n =
     cond (tops (Two o) t) (both (matched p (left_tree t) n) (matched q (right_tree t) (n + node_count (left_tree t)))) None
 
 -- the operator is what its number says
-pub tops-is : (op : Operator) (t : Tree) → tops op t ≡ true → top_operator t ≡ op
-tops-is op t e =
+pub tops_is : (op : Operator) (t : Tree) → tops op t ≡ true → top_operator t ≡ op
+tops_is op t e =
     let same : Some (top_operator t) ≡ Some op =
     sym (operator_of_number (top_operator t)) ∙ ap operator_of (eqb-true _ _ e) ∙ operator_of_number op in
     cc
 
-pub is-tops : (op : Operator) (t : Tree) → top_operator t ≡ op → tops op t ≡ true
-is-tops op t e = eq-eqb _ _ (ap operator_number e)
+pub is_tops : (op : Operator) (t : Tree) → top_operator t ≡ op → tops op t ≡ true
+is_tops op t e = eq-eqb _ _ (ap operator_number e)
 
-pub admitted-is : (i : Interval) (w : ℕ) → admitted i w ≡ true → Admits i w
-admitted-is i w e =
+pub admitted_is : (i : Interval) (w : ℕ) → admitted i w ≡ true → Admits i w
+admitted_is i w e =
     let parts = and_parts (leb i.low w) (leb w i.high) e in
     (leb-true i.low w parts.0, leb-true w i.high parts.1)
 
-pub is-admitted : (i : Interval) (w : ℕ) → Admits i w → admitted i w ≡ true
-is-admitted i w a = and_from (leb i.low w) (leb w i.high) (le-leb i.low w a.0) (le-leb w i.high a.1)
+pub is_admitted : (i : Interval) (w : ℕ) → Admits i w → admitted i w ≡ true
+is_admitted i w a = and_from (leb i.low w) (leb w i.high) (le-leb i.low w a.0) (le-leb w i.high a.1)
 
 -- every match is found
 pub finds : {p : Shape} {t : Tree} {n : ℕ} {gs : List Subgoal} {ws : List ℕ} → Matches p t n gs ws → matched p t n ≡ Some (found gs ws)
 finds at_operand = refl
-finds (at_constant {i} {w} a) = cond-true (admitted i w) _ _ (is-admitted i w a)
+finds (at_constant {i} {w} a) = cond-true (admitted i w) _ _ (is_admitted i w a)
 finds at_variable = refl
-finds (at_unary {o} {o'} {p} {t} {n} e m) = cond-true (tops (One o) (one o' t)) _ _ (is-tops (One o) (one o' t) (ap One (sym e))) ∙ finds m
+finds (at_unary {o} {o'} {p} {t} {n} e m) = cond-true (tops (One o) (one o' t)) _ _ (is_tops (One o) (one o' t) (ap One (sym e))) ∙ finds m
 finds (at_binary {o} {o'} {p} {q} {t} {u} {n} {gs} {gs'} {ws} {ws'} e m m') =
-    cond-true (tops (Two o) (two o' t u)) _ _ (is-tops (Two o) (two o' t u) (ap Two (sym e)))
+    cond-true (tops (Two o) (two o' t u)) _ _ (is_tops (Two o) (two o' t u) (ap Two (sym e)))
     ∙ ap (λ f. both f (matched q u (n + node_count t))) (finds m) ∙ ap (after (found gs ws)) (finds m')
 
 pub matches_once_lem : MatchesOnce
@@ -107,17 +107,17 @@ matches_once_lem p t n gs gs' ws ws' m m' =
     (ap (λ f. f.goals) same-found, ap (λ f. f.payloads) same-found)
 
 -- a tree with this operator, from its parts
-is-cnst : (t : Tree) → top_operator t ≡ Cnst → cnst (top_payload t) ≡ t
-is-cnst (cnst w) e = refl
-is-cnst (var v) e = let z : ◌≡◌ {A = ℕ} 0 1 = cc in absurd (omega arith)
-is-cnst (one o t) e = let z : ◌≡◌ {A = ℕ} 0 1 = cc in absurd (omega arith)
-is-cnst (two o t u) e = let z : ◌≡◌ {A = ℕ} 0 1 = cc in absurd (omega arith)
+is_cnst : (t : Tree) → top_operator t ≡ Cnst → cnst (top_payload t) ≡ t
+is_cnst (cnst w) e = refl
+is_cnst (var v) e = let z : ◌≡◌ {A = ℕ} 0 1 = cc in absurd (omega arith)
+is_cnst (one o t) e = let z : ◌≡◌ {A = ℕ} 0 1 = cc in absurd (omega arith)
+is_cnst (two o t u) e = let z : ◌≡◌ {A = ℕ} 0 1 = cc in absurd (omega arith)
 
-is-var : (t : Tree) → top_operator t ≡ Var → var (top_payload t) ≡ t
-is-var (cnst w) e = let z : ◌≡◌ {A = ℕ} 0 1 = cc in absurd (omega arith)
-is-var (var v) e = refl
-is-var (one o t) e = let z : ◌≡◌ {A = ℕ} 0 1 = cc in absurd (omega arith)
-is-var (two o t u) e = let z : ◌≡◌ {A = ℕ} 0 1 = cc in absurd (omega arith)
+is_var : (t : Tree) → top_operator t ≡ Var → var (top_payload t) ≡ t
+is_var (cnst w) e = let z : ◌≡◌ {A = ℕ} 0 1 = cc in absurd (omega arith)
+is_var (var v) e = refl
+is_var (one o t) e = let z : ◌≡◌ {A = ℕ} 0 1 = cc in absurd (omega arith)
+is_var (two o t u) e = let z : ◌≡◌ {A = ℕ} 0 1 = cc in absurd (omega arith)
 
 pub is_one : (o : Unary) (t : Tree) → top_operator t ≡ One o → one o (right_tree t) ≡ t
 is_one o (cnst w) e = let z : ◌≡◌ {A = ℕ} 0 1 = cc in absurd (omega arith)
@@ -125,19 +125,19 @@ is_one o (var v) e = let z : ◌≡◌ {A = ℕ} 0 1 = cc in absurd (omega arith
 is_one o (one o' t) e = let same : o ≡ o' = cc in ap (λ p. one p t) same
 is_one o (two o' t u) e = let z : ◌≡◌ {A = ℕ} 0 1 = cc in absurd (omega arith)
 
-pub is-two : (o : Binary) (t : Tree) → top_operator t ≡ Two o → two o (left_tree t) (right_tree t) ≡ t
-is-two o (cnst w) e = let z : ◌≡◌ {A = ℕ} 0 1 = cc in absurd (omega arith)
-is-two o (var v) e = let z : ◌≡◌ {A = ℕ} 0 1 = cc in absurd (omega arith)
-is-two o (one o' t) e = let z : ◌≡◌ {A = ℕ} 0 1 = cc in absurd (omega arith)
-is-two o (two o' t u) e = let same : o ≡ o' = cc in ap (λ p. two p t u) same
+pub is_two : (o : Binary) (t : Tree) → top_operator t ≡ Two o → two o (left_tree t) (right_tree t) ≡ t
+is_two o (cnst w) e = let z : ◌≡◌ {A = ℕ} 0 1 = cc in absurd (omega arith)
+is_two o (var v) e = let z : ◌≡◌ {A = ℕ} 0 1 = cc in absurd (omega arith)
+is_two o (one o' t) e = let z : ◌≡◌ {A = ℕ} 0 1 = cc in absurd (omega arith)
+is_two o (two o' t u) e = let same : o ≡ o' = cc in ap (λ p. two p t u) same
 
 -- what is found
 abbrev pub MatchedBy : Shape → Tree → ℕ → Found → Type 0
 MatchedBy p t n f = Matches p t n f.goals f.payloads
 
-cond-some : (b : Bool) (x : Option Found) (f : Found) → cond b x None ≡ Some f → (b ≡ true) × (x ≡ Some f)
-cond-some true x f e = (refl, e)
-cond-some false x f e = let z : ◌≡◌ {A = ℕ} 0 1 = cc in absurd (omega arith)
+cond_some : (b : Bool) (x : Option Found) (f : Found) → cond b x None ≡ Some f → (b ≡ true) × (x ≡ Some f)
+cond_some true x f e = (refl, e)
+cond_some false x f e = let z : ◌≡◌ {A = ℕ} 0 1 = cc in absurd (omega arith)
 
 record Halves (x y : Option Found) (f : Found) : Type 0 where
   first : Found
@@ -157,27 +157,27 @@ sound (operand_shape a) t n f e =
     let same : found (goal_of a t n ∷ []) [] ≡ f = cc in
     subst (MatchedBy (operand_shape a) t n) same at_operand
 sound (constant_shape i) t n f e =
-    let here = cond-some (tops Cnst t && admitted i (top_payload t)) _ f e in
+    let here = cond_some (tops Cnst t && admitted i (top_payload t)) _ f e in
     let parts = and_parts (tops Cnst t) (admitted i (top_payload t)) here.0 in
     let same : a_payload (top_payload t) ≡ f = let s = here.1 in cc in
-    let at : Matches (constant_shape i) (cnst (top_payload t)) n [] (top_payload t ∷ []) = at_constant (admitted-is i (top_payload t) parts.1) in
-    subst (λ u. MatchedBy (constant_shape i) u n f) (is-cnst t (tops-is Cnst t parts.0))
+    let at : Matches (constant_shape i) (cnst (top_payload t)) n [] (top_payload t ∷ []) = at_constant (admitted_is i (top_payload t) parts.1) in
+    subst (λ u. MatchedBy (constant_shape i) u n f) (is_cnst t (tops_is Cnst t parts.0))
     (subst (MatchedBy (constant_shape i) (cnst (top_payload t)) n) same at)
 sound variable_shape t n f e =
-    let here = cond-some (tops Var t) _ f e in
+    let here = cond_some (tops Var t) _ f e in
     let same : a_payload (top_payload t) ≡ f = let s = here.1 in cc in
     let at : Matches variable_shape (var (top_payload t)) n [] (top_payload t ∷ []) = at_variable in
-    subst (λ u. MatchedBy variable_shape u n f) (is-var t (tops-is Var t here.0))
+    subst (λ u. MatchedBy variable_shape u n f) (is_var t (tops_is Var t here.0))
     (subst (MatchedBy variable_shape (var (top_payload t)) n) same at)
 sound (unary_shape o p) t n f e =
-    let here = cond-some (tops (One o) t) _ f e in
-    subst (λ u. MatchedBy (unary_shape o p) u n f) (is_one o t (tops-is (One o) t here.0))
+    let here = cond_some (tops (One o) t) _ f e in
+    subst (λ u. MatchedBy (unary_shape o p) u n f) (is_one o t (tops_is (One o) t here.0))
     (at_unary refl (sound p (right_tree t) n f here.1))
 sound (binary_shape o p q) t n f e =
-    let here = cond-some (tops (Two o) t) _ f e in
+    let here = cond_some (tops (Two o) t) _ f e in
     let m = n + node_count (left_tree t) in
     let parts = halves (matched p (left_tree t) n) (matched q (right_tree t) m) f here.1 in
-    subst (λ u. MatchedBy (binary_shape o p q) u n f) (is-two o t (tops-is (Two o) t here.0))
+    subst (λ u. MatchedBy (binary_shape o p q) u n f) (is_two o t (tops_is (Two o) t here.0))
     (subst (MatchedBy (binary_shape o p q) (two o (left_tree t) (right_tree t)) n) parts.joined
     (at_binary refl (sound p (left_tree t) n parts.first parts.first_is) (sound q (right_tree t) m parts.second parts.second_is)))
 
@@ -205,20 +205,20 @@ module _ (σ : List ℕ) where
   abbrev values : List Subgoal → List ℕ
   values gs = map (λ g. value_of σ g.subtree) gs
 
-  value-from : {p : Shape} {t : Tree} {n : ℕ} {gs : List Subgoal} {ws : List ℕ} → Matches p t n gs ws → (vs more : List ℕ) → shape_value p (values gs ++ vs) (ws ++ more) σ ≡ value_of σ t
-  value-from at_operand vs more = refl
-  value-from (at_constant a) vs more = refl
-  value-from at_variable vs more = refl
-  value-from (at_unary {o} {o'} {p} {t} e m) vs more = λ i. unary (e i) (value-from m vs more i)
-  value-from (at_binary {o} {o'} {p} {q} {t} {u} {n} {gs} {gs'} {ws} {ws'} e m m') vs more =
+  value_from : {p : Shape} {t : Tree} {n : ℕ} {gs : List Subgoal} {ws : List ℕ} → Matches p t n gs ws → (vs more : List ℕ) → shape_value p (values gs ++ vs) (ws ++ more) σ ≡ value_of σ t
+  value_from at_operand vs more = refl
+  value_from (at_constant a) vs more = refl
+  value_from at_variable vs more = refl
+  value_from (at_unary {o} {o'} {p} {t} e m) vs more = λ i. unary (e i) (value_from m vs more i)
+  value_from (at_binary {o} {o'} {p} {q} {t} {u} {n} {gs} {gs'} {ws} {ws'} e m m') vs more =
       let goals = ap (λ l. l ++ vs) (map-append (λ g. value_of σ g.subtree) gs gs') ∙ append_assoc (values gs) (values gs') vs in
       let pays = append_assoc ws ws' more in
-      let left = (λ i. shape_value p (goals i) (pays i) σ) ∙ value-from m (values gs' ++ vs) (ws' ++ more) in
+      let left = (λ i. shape_value p (goals i) (pays i) σ) ∙ value_from m (values gs' ++ vs) (ws' ++ more) in
       let rest = ap (drop (length (operands_of p))) goals ∙ drop_at (values gs) (values gs' ++ vs) (length (operands_of p)) (length-map gs _ ∙ goal_each m) in
       let rest' = ap (drop (length (leaves_of p))) pays ∙ drop_at ws (ws' ++ more) (length (leaves_of p)) (payload_each m) in
-      let right = (λ i. shape_value q (rest i) (rest' i) σ) ∙ value-from m' vs more in
+      let right = (λ i. shape_value q (rest i) (rest' i) σ) ∙ value_from m' vs more in
       λ i. binary (e i) (left i) (right i)
 
 pub match_value_lem : MatchValue
 match_value_lem p t n gs ws σ m =
-    sym (λ i. shape_value p (append-nil (values σ gs) i) (append-nil ws i) σ) ∙ value-from σ m [] []
+    sym (λ i. shape_value p (append-nil (values σ gs) i) (append-nil ws i) σ) ∙ value_from σ m [] []

@@ -28,30 +28,30 @@ use Rattle.pattern.specs.Shapes.{Shape, operand_shape, constant_shape, variable_
 use Rattle.matching.specs.Steps.{fits_node, part_nodes, operand_there, payload_there, found_from}
 use Rattle.matching.specs.Subtrees.{root_of, SubtreeAt}
 use Rattle.matching.proofs.LeftParts.{parts_are_roots_lem}
-use Rattle.matching.proofs.Matched.{Found, found, goal_of, a_payload, after, both, matched, sound, finds, top_operator, top_payload, left_tree, right_tree, tops, tops-is, is_one, is-two}
-use Rattle.matching.proofs.Subtrees.{subtree_of, some_node, root_is, node_there, part-of-one, left-of-two, right-of-two}
+use Rattle.matching.proofs.Matched.{Found, found, goal_of, a_payload, after, both, matched, sound, finds, top_operator, top_payload, left_tree, right_tree, tops, tops_is, is_one, is_two}
+use Rattle.matching.proofs.Subtrees.{subtree_of, some_node, root_is, node_there, part_of_one, left_of_two, right_of_two}
 
 cond_same : {A : Type 0} (b : Bool) (x y z : A) → (b ≡ true → x ≡ y) → cond b x z ≡ cond b y z
 cond_same true x y z f = f refl
 cond_same false x y z f = refl
 
 module _ (t : CheckedTree) where
-  pub tree-length : length (tree_nodes t) ≡ t.len
-  tree-length = length-take-le t.len t.nodes (omega (arith, t.sized, t.within))
+  pub tree_length : length (tree_nodes t) ≡ t.len
+  tree_length = length-take-le t.len t.nodes (omega (arith, t.sized, t.within))
 
   -- node k is the root of the subtree u, whose first node is node n
   abbrev pub There : ℕ → Tree → ℕ → Type 0
   There k u n = SubtreeAt (tree_nodes t) k u n
 
   -- each node of a checked tree is the root of a subtree
-  pub subtree-there : (k : ℕ) → k < t.len → (u : Tree) × ((n : ℕ) × There k u n)
-  subtree-there k h = subtree_of t.target (tree_nodes t) t.granted k (omega (arith, tree-length))
+  pub subtree_there : (k : ℕ) → k < t.len → (u : Tree) × ((n : ℕ) × There k u n)
+  subtree_there k h = subtree_of t.target (tree_nodes t) t.granted k (omega (arith, tree_length))
 
-  pub inside-len : {k : ℕ} {u : Tree} {n : ℕ} → There k u n → k < t.len
-  inside-len s = omega (arith, s.inside, tree-length)
+  pub inside_len : {k : ℕ} {u : Tree} {n : ℕ} → There k u n → k < t.len
+  inside_len s = omega (arith, s.inside, tree_length)
 
-  pub node-is : {k : ℕ} {u : Tree} {n : ℕ} → There k u n → node_at t.nodes k ≡ node_of (top_operator u) (top_payload u)
-  node-is {k} {u} {n} s = sym (get_or-take t.len t.nodes k _ (inside-len s)) ∙ node_there (tree_nodes t) k u n s
+  pub node_is : {k : ℕ} {u : Tree} {n : ℕ} → There k u n → node_at t.nodes k ≡ node_of (top_operator u) (top_payload u)
+  node_is {k} {u} {n} s = sym (get_or-take t.len t.nodes k _ (inside_len s)) ∙ node_there (tree_nodes t) k u n s
 
   left_is : (k : ℕ) → k < t.len → get_or (left_parts (tree_nodes t)) k 0 ≡ get_or t.left k 0
   left_is k h = sym (ap (λ l. get_or l k 0) t.parted) ∙ get_or-take t.len t.left k 0 h
@@ -61,32 +61,32 @@ module _ (t : CheckedTree) where
   only_part {k} {u} {n} o s e =
       let r : There k (one o (right_tree u)) n = subst (λ v. There k v n) (sym (is_one o u e)) s in
       subst (λ j. There j (right_tree u) n) (sym ((parts_are_roots_lem (tree_nodes t) k n).1 o (right_tree u) r))
-      (part-of-one (tree_nodes t) k o (right_tree u) n r)
+      (part_of_one (tree_nodes t) k o (right_tree u) n r)
 
-  pub right-part-there : {k : ℕ} {u : Tree} {n : ℕ} (o : BinaryOperator) → There k u n → top_operator u ≡ Two o → There (k - 1) (right_tree u) (n + node_count (left_tree u))
-  right-part-there {k} {u} {n} o s e =
-      let r : There k (two o (left_tree u) (right_tree u)) n = subst (λ v. There k v n) (sym (is-two o u e)) s in
+  pub right_part_there : {k : ℕ} {u : Tree} {n : ℕ} (o : BinaryOperator) → There k u n → top_operator u ≡ Two o → There (k - 1) (right_tree u) (n + node_count (left_tree u))
+  right_part_there {k} {u} {n} o s e =
+      let r : There k (two o (left_tree u) (right_tree u)) n = subst (λ v. There k v n) (sym (is_two o u e)) s in
       subst (λ j. There j (right_tree u) (n + node_count (left_tree u))) (sym ((parts_are_roots_lem (tree_nodes t) k n).0 o (left_tree u) (right_tree u) r).1)
-      (right-of-two (tree_nodes t) k o (left_tree u) (right_tree u) n r)
+      (right_of_two (tree_nodes t) k o (left_tree u) (right_tree u) n r)
 
-  pub left-part-there : {k : ℕ} {u : Tree} {n : ℕ} (o : BinaryOperator) → There k u n → top_operator u ≡ Two o → There (get_or t.left k 0) (left_tree u) n
-  left-part-there {k} {u} {n} o s e =
-      let r : There k (two o (left_tree u) (right_tree u)) n = subst (λ v. There k v n) (sym (is-two o u e)) s in
-      subst (λ j. There j (left_tree u) n) (sym ((parts_are_roots_lem (tree_nodes t) k n).0 o (left_tree u) (right_tree u) r).0 ∙ left_is k (inside-len s))
-      (left-of-two (tree_nodes t) k o (left_tree u) (right_tree u) n r)
+  pub left_part_there : {k : ℕ} {u : Tree} {n : ℕ} (o : BinaryOperator) → There k u n → top_operator u ≡ Two o → There (get_or t.left k 0) (left_tree u) n
+  left_part_there {k} {u} {n} o s e =
+      let r : There k (two o (left_tree u) (right_tree u)) n = subst (λ v. There k v n) (sym (is_two o u e)) s in
+      subst (λ j. There j (left_tree u) n) (sym ((parts_are_roots_lem (tree_nodes t) k n).0 o (left_tree u) (right_tree u) r).0 ∙ left_is k (inside_len s))
+      (left_of_two (tree_nodes t) k o (left_tree u) (right_tree u) n r)
 
   -- what is found in all, where a shape was matched first
   abbrev continued : List Item → List ℕ → List OperandAt → List ℕ → Option Found → Option (List OperandAt × List ℕ)
   continued xs ks os ws None = None
   continued xs ks os ws (Some f) = found_from t xs ks (os ++ map fallen f.goals) (ws ++ f.payloads)
 
-  continued-cond : (xs : List Item) (ks : List ℕ) (os : List OperandAt) (ws : List ℕ) (b : Bool) (x : Option Found) → continued xs ks os ws (cond b x None) ≡ cond b (continued xs ks os ws x) None
-  continued-cond xs ks os ws true x = refl
-  continued-cond xs ks os ws false x = refl
+  continued_cond : (xs : List Item) (ks : List ℕ) (os : List OperandAt) (ws : List ℕ) (b : Bool) (x : Option Found) → continued xs ks os ws (cond b x None) ≡ cond b (continued xs ks os ws x) None
+  continued_cond xs ks os ws true x = refl
+  continued_cond xs ks os ws false x = refl
 
-  continued-after : (xs : List Item) (ks : List ℕ) (os : List OperandAt) (ws : List ℕ) (f : Found) (x : Option Found) → continued xs ks (os ++ map fallen f.goals) (ws ++ f.payloads) x ≡ continued xs ks os ws (after f x)
-  continued-after xs ks os ws f None = refl
-  continued-after xs ks os ws f (Some g) =
+  continued_after : (xs : List Item) (ks : List ℕ) (os : List OperandAt) (ws : List ℕ) (f : Found) (x : Option Found) → continued xs ks (os ++ map fallen f.goals) (ws ++ f.payloads) x ≡ continued xs ks os ws (after f x)
+  continued_after xs ks os ws f None = refl
+  continued_after xs ks os ws f (Some g) =
       let goals = append_assoc os (map fallen f.goals) (map fallen g.goals) ∙ ap (λ l. os ++ l) (sym (map-append fallen f.goals g.goals)) in
       let pays = append_assoc ws f.payloads g.payloads in
       λ i. found_from t xs ks (goals i) (pays i)
@@ -104,43 +104,43 @@ module _ (t : CheckedTree) where
       let root : k ≡ root_of n u = omega (arith, root_is (tree_nodes t) k u n s) in
       ap (λ j. found_from t xs ks (os ++ record { operand = a; node = j } ∷ []) (ws ++ [])) root
   along (constant_shape i) {k} {u} {n} s xs ks os ws =
-      ap (stepped (Constant i) xs k ks os ws) (node-is s) ∙ sym (continued-cond xs ks os ws (tops Cnst u && admitted i (top_payload u)) _)
+      ap (stepped (Constant i) xs k ks os ws) (node_is s) ∙ sym (continued_cond xs ks os ws (tops Cnst u && admitted i (top_payload u)) _)
   along variable_shape {k} {u} {n} s xs ks os ws =
-      ap (stepped Variable xs k ks os ws) (node-is s) ∙ sym (continued-cond xs ks os ws (tops Var u) _)
+      ap (stepped Variable xs k ks os ws) (node_is s) ∙ sym (continued_cond xs ks os ws (tops Var u) _)
   along (unary_shape o p) {k} {u} {n} s xs ks os ws =
-      ap (stepped (Unary o) (reading p ++ xs) k ks os ws) (node-is s)
+      ap (stepped (Unary o) (reading p ++ xs) k ks os ws) (node_is s)
       ∙ cond_same (tops (One o) u) _ _ None
-      (λ e. bare (reading p ++ xs) ((k - 1) ∷ ks) os ws ∙ along p (only_part o s (tops-is (One o) u e)) xs ks os ws)
-      ∙ sym (continued-cond xs ks os ws (tops (One o) u) (matched p (right_tree u) n))
+      (λ e. bare (reading p ++ xs) ((k - 1) ∷ ks) os ws ∙ along p (only_part o s (tops_is (One o) u e)) xs ks os ws)
+      ∙ sym (continued_cond xs ks os ws (tops (One o) u) (matched p (right_tree u) n))
   along (binary_shape o p q) {k} {u} {n} s xs ks os ws =
       let l = get_or t.left k 0 in
       let m = n + node_count (left_tree u) in
-      ap (stepped (Binary o) ((reading p ++ reading q) ++ xs) k ks os ws) (node-is s)
+      ap (stepped (Binary o) ((reading p ++ reading q) ++ xs) k ks os ws) (node_is s)
       ∙ cond_same (tops (Two o) u) _ _ None
       (λ e.
       bare ((reading p ++ reading q) ++ xs) (l ∷ (k - 1) ∷ ks) os ws
       ∙ ap (λ ys. found_from t ys (l ∷ (k - 1) ∷ ks) os ws) (append_assoc (reading p) (reading q) xs)
-      ∙ along p (left-part-there o s (tops-is (Two o) u e)) (reading q ++ xs) ((k - 1) ∷ ks) os ws
+      ∙ along p (left_part_there o s (tops_is (Two o) u e)) (reading q ++ xs) ((k - 1) ∷ ks) os ws
       ∙ then (matched p (left_tree u) n) (matched q (right_tree u) m)
-      (λ os' ws'. along q (right-part-there o s (tops-is (Two o) u e)) xs ks os' ws'))
-      ∙ sym (continued-cond xs ks os ws (tops (Two o) u) (both (matched p (left_tree u) n) (matched q (right_tree u) m)))
+      (λ os' ws'. along q (right_part_there o s (tops_is (Two o) u e)) xs ks os' ws'))
+      ∙ sym (continued_cond xs ks os ws (tops (Two o) u) (both (matched p (left_tree u) n) (matched q (right_tree u) m)))
     where
       then : (x y : Option Found) → ((os' : List OperandAt) (ws' : List ℕ) → found_from t (reading q ++ xs) ((k - 1) ∷ ks) os' ws' ≡ continued xs ks os' ws' y) → continued (reading q ++ xs) ((k - 1) ∷ ks) os ws x ≡ continued xs ks os ws (both x y)
       then None y f = refl
-      then (Some g) y f = f _ _ ∙ continued-after xs ks os ws g y
+      then (Some g) y f = f _ _ ∙ continued_after xs ks os ws g y
 
   -- what is found from the root of a subtree is a match there, or there is none
   report : (p : Shape) {k : ℕ} {u : Tree} {n : ℕ} (xs : List Item) → reading p ≡ xs → There k u n → found_from t xs (k ∷ []) [] [] ≡ continued [] [] [] [] (matched p u n)
   report p {k} xs e s = ap (λ ys. found_from t ys (k ∷ []) [] []) (sym e ∙ sym (append-nil (reading p))) ∙ along p s [] [] [] []
 
-  no-match : (p : Shape) {k : ℕ} {u : Tree} {n : ℕ} (xs : List Item) → reading p ≡ xs → There k u n → found_from t xs (k ∷ []) [] [] ≡ None → NoMatch p u n
-  no-match p {k} {u} {n} xs e s none gs ws m =
+  no_match : (p : Shape) {k : ℕ} {u : Tree} {n : ℕ} (xs : List Item) → reading p ≡ xs → There k u n → found_from t xs (k ∷ []) [] [] ≡ None → NoMatch p u n
+  no_match p {k} {u} {n} xs e s none gs ws m =
       let z : ◌≡◌ {A = Option (List OperandAt × List ℕ)} None (Some (map fallen gs, ws)) = sym none ∙ report p xs e s ∙ ap (continued [] [] [] []) (finds m) in
       let y : ◌≡◌ {A = ℕ} 0 1 = cc in
       omega arith
 
-  a-match : (p : Shape) {k : ℕ} {u : Tree} {n : ℕ} (xs : List Item) → reading p ≡ xs → There k u n → (m : Match) → found_from t xs (k ∷ []) [] [] ≡ Some (operands_found m, payloads_found m) → Reports p u n m
-  a-match p {k} {u} {n} xs e s m some = go (matched p u n) refl (sym (report p xs e s) ∙ some)
+  a_match : (p : Shape) {k : ℕ} {u : Tree} {n : ℕ} (xs : List Item) → reading p ≡ xs → There k u n → (m : Match) → found_from t xs (k ∷ []) [] [] ≡ Some (operands_found m, payloads_found m) → Reports p u n m
+  a_match p {k} {u} {n} xs e s m some = go (matched p u n) refl (sym (report p xs e s) ∙ some)
     where
       go : (x : Option Found) → matched p u n ≡ x → continued [] [] [] [] x ≡ Some (operands_found m, payloads_found m) → Reports p u n m
       go None is h = let z : ◌≡◌ {A = ℕ} 0 1 = cc in absurd (omega arith)
@@ -149,16 +149,16 @@ module _ (t : CheckedTree) where
           record { goals = f.goals; words = f.payloads; holds = sound p u n f is; operands_are = sym (ap (λ x. x.0) same); payloads_are = sym (ap (λ x. x.1) same) }
 
   pub answered : (p : Shape) {k : ℕ} {u : Tree} {n : ℕ} (xs : List Item) → reading p ≡ xs → There k u n → (r : Option Match) → MatchOption r (found_from t xs (k ∷ []) [] [] ≡ None) (λ m. found_from t xs (k ∷ []) [] [] ≡ Some (operands_found m, payloads_found m)) → MatchOption r (NoMatch p u n) (λ m. Reports p u n m)
-  answered p xs e s None none = no-match p xs e s none
-  answered p xs e s (Some m) some = a-match p xs e s m some
+  answered p xs e s None none = no_match p xs e s none
+  answered p xs e s (Some m) some = a_match p xs e s m some
 
   -- one item in the code's words: it stands at node k, and after it ks' wait and os' and ws' are found
   module _ (x : Item) (xs : List Item) (ks : List ℕ) (os : List OperandAt) (ws : List ℕ) (k : ℕ) (next : k ≡ get_or ks 0 0) where
     at_next : found_from t (x ∷ xs) ks os ws ≡ stepped x xs k (drop 1 ks) os ws (node_at t.nodes k)
     at_next = ap (λ j. stepped x xs j (drop 1 ks) os ws (node_at t.nodes j)) (sym next)
 
-    pub step-on : (ks' : List ℕ) (os' : List OperandAt) (ws' : List ℕ) → true ≡ fits_node x (node_at t.nodes k) → ks' ≡ part_nodes x k (get_or t.left k 0) ++ drop 1 ks → os' ≡ os ++ operand_there x k → ws' ≡ ws ++ payload_there x (node_at t.nodes k).payload → found_from t (x ∷ xs) ks os ws ≡ found_from t xs ks' os' ws'
-    step-on ks' os' ws' fit e f g =
+    pub step_on : (ks' : List ℕ) (os' : List OperandAt) (ws' : List ℕ) → true ≡ fits_node x (node_at t.nodes k) → ks' ≡ part_nodes x k (get_or t.left k 0) ++ drop 1 ks → os' ≡ os ++ operand_there x k → ws' ≡ ws ++ payload_there x (node_at t.nodes k).payload → found_from t (x ∷ xs) ks os ws ≡ found_from t xs ks' os' ws'
+    step_on ks' os' ws' fit e f g =
         at_next ∙ cond-true (fits_node x (node_at t.nodes k)) _ _ (sym fit) ∙ sym (λ i. found_from t xs (e i) (f i) (g i))
 
     pub stop : false ≡ fits_node x (node_at t.nodes k) → found_from t (x ∷ xs) ks os ws ≡ None
@@ -168,45 +168,45 @@ module _ (t : CheckedTree) where
   abbrev pub Nodes : List ℕ → Type 0
   Nodes ks = All (λ k. k < t.len) ks
 
-  pub next-inside : (ks : List ℕ) → 0 < t.len → Nodes ks → get_or ks 0 0 < t.len
-  next-inside [] h a = h
-  next-inside (k ∷ ks) h a = a.0
+  pub next_inside : (ks : List ℕ) → 0 < t.len → Nodes ks → get_or ks 0 0 < t.len
+  next_inside [] h a = h
+  next_inside (k ∷ ks) h a = a.0
 
-  pub rest-inside : (ks : List ℕ) → Nodes ks → Nodes (drop 1 ks)
-  rest-inside [] a = tt
-  rest-inside (k ∷ ks) a = a.1
+  pub rest_inside : (ks : List ℕ) → Nodes ks → Nodes (drop 1 ks)
+  rest_inside [] a = tt
+  rest_inside (k ∷ ks) a = a.1
 
   -- an operator of an item that fits is that of the subtree
-  tops-one : {k : ℕ} {u : Tree} {n : ℕ} (o : UnaryOperator) → There k u n → fits_node (Unary o) (node_at t.nodes k) ≡ true → top_operator u ≡ One o
-  tops-one {k} {u} o s fit = tops-is (One o) u (sym (ap (fits_node (Unary o)) (node-is s)) ∙ fit)
+  tops_one : {k : ℕ} {u : Tree} {n : ℕ} (o : UnaryOperator) → There k u n → fits_node (Unary o) (node_at t.nodes k) ≡ true → top_operator u ≡ One o
+  tops_one {k} {u} o s fit = tops_is (One o) u (sym (ap (fits_node (Unary o)) (node_is s)) ∙ fit)
 
-  tops-two : {k : ℕ} {u : Tree} {n : ℕ} (o : BinaryOperator) → There k u n → fits_node (Binary o) (node_at t.nodes k) ≡ true → top_operator u ≡ Two o
-  tops-two {k} {u} o s fit = tops-is (Two o) u (sym (ap (fits_node (Binary o)) (node-is s)) ∙ fit)
+  tops_two : {k : ℕ} {u : Tree} {n : ℕ} (o : BinaryOperator) → There k u n → fits_node (Binary o) (node_at t.nodes k) ≡ true → top_operator u ≡ Two o
+  tops_two {k} {u} o s fit = tops_is (Two o) u (sym (ap (fits_node (Binary o)) (node_is s)) ∙ fit)
 
-  pub before-one : (k : ℕ) (o : UnaryOperator) → k < t.len → fits_node (Unary o) (node_at t.nodes k) ≡ true → 1 ≤ k
-  before-one k o h fit =
-      let there = subtree-there k h in
+  pub before_one : (k : ℕ) (o : UnaryOperator) → k < t.len → fits_node (Unary o) (node_at t.nodes k) ≡ true → 1 ≤ k
+  before_one k o h fit =
+      let there = subtree_there k h in
       let u : Tree = there.0 in
       let n : ℕ = there.1.0 in
-      let same = ap node_count (is_one o u (tops-one o there.1.1 fit)) in
+      let same = ap node_count (is_one o u (tops_one o there.1.1 fit)) in
       omega (arith, root_is (tree_nodes t) k u n there.1.1, some_node (right_tree u), same)
 
-  pub before-two : (k : ℕ) (o : BinaryOperator) → k < t.len → fits_node (Binary o) (node_at t.nodes k) ≡ true → 1 ≤ k
-  before-two k o h fit =
-      let there = subtree-there k h in
+  pub before_two : (k : ℕ) (o : BinaryOperator) → k < t.len → fits_node (Binary o) (node_at t.nodes k) ≡ true → 1 ≤ k
+  before_two k o h fit =
+      let there = subtree_there k h in
       let u : Tree = there.0 in
       let n : ℕ = there.1.0 in
-      let same = ap node_count (is-two o u (tops-two o there.1.1 fit)) in
+      let same = ap node_count (is_two o u (tops_two o there.1.1 fit)) in
       omega (arith, root_is (tree_nodes t) k u n there.1.1, some_node (right_tree u), same)
 
-  pub parts-inside : (x : Item) (k : ℕ) → k < t.len → fits_node x (node_at t.nodes k) ≡ true → Nodes (part_nodes x k (get_or t.left k 0))
-  parts-inside (Operand a) k h fit = tt
-  parts-inside (Unary o) k h fit = (omega arith, tt)
-  parts-inside (Binary o) k h fit =
-      let there = subtree-there k h in
-      (inside-len (left-part-there o there.1.1 (tops-two o there.1.1 fit)), (omega arith, tt))
-  parts-inside (Constant i) k h fit = tt
-  parts-inside Variable k h fit = tt
+  pub parts_inside : (x : Item) (k : ℕ) → k < t.len → fits_node x (node_at t.nodes k) ≡ true → Nodes (part_nodes x k (get_or t.left k 0))
+  parts_inside (Operand a) k h fit = tt
+  parts_inside (Unary o) k h fit = (omega arith, tt)
+  parts_inside (Binary o) k h fit =
+      let there = subtree_there k h in
+      (inside_len (left_part_there o there.1.1 (tops_two o there.1.1 fit)), (omega arith, tt))
+  parts_inside (Constant i) k h fit = tt
+  parts_inside Variable k h fit = tt
 
   pub part_count : (x : Item) (k l : ℕ) → length (part_nodes x k l) ≡ item_parts x
   part_count (Operand a) k l = refl

@@ -26,8 +26,8 @@ module _ (xs : List Node) where
       omega (arith, s.counted, length-postfix t, length-append s.before (postfix t), ap length s.split, length-take-le (i + 1) xs (omega (arith, s.inside)))
 
   -- a front of the nodes that ends with a subtree
-  pub front-subtree : (m : ℕ) (before zs : List Node) (t : Tree) (n : ℕ) → take m xs ≡ (before ++ postfix t) ++ zs → length before ≡ n → SubtreeAt xs (root_of n t) t n
-  front-subtree m before zs t n e c =
+  pub front_subtree : (m : ℕ) (before zs : List Node) (t : Tree) (n : ℕ) → take m xs ≡ (before ++ postfix t) ++ zs → length before ≡ n → SubtreeAt xs (root_of n t) t n
+  front_subtree m before zs t n e c =
       let ys = before ++ postfix t in
       let long : length ys ≡ n + node_count t = omega (arith, c, length-postfix t, length-append before (postfix t)) in
       let all : length ys + length zs ≡ length (take m xs) = sym (length-append ys zs) ∙ sym (ap length e) in
@@ -42,15 +42,15 @@ module _ (xs : List Node) where
         counted = c;
       }
 
-  pub part-of-one : (i : ℕ) (o : Unary) (t : Tree) (n : ℕ) → SubtreeAt xs i (one o t) n → SubtreeAt xs (root_of n t) t n
-  part-of-one i o t n s = front-subtree (i + 1) s.before _ t n (s.split ∙ sym (append_assoc s.before (postfix t) _)) s.counted
+  pub part_of_one : (i : ℕ) (o : Unary) (t : Tree) (n : ℕ) → SubtreeAt xs i (one o t) n → SubtreeAt xs (root_of n t) t n
+  part_of_one i o t n s = front_subtree (i + 1) s.before _ t n (s.split ∙ sym (append_assoc s.before (postfix t) _)) s.counted
 
-  pub left-of-two : (i : ℕ) (o : Binary) (t u : Tree) (n : ℕ) → SubtreeAt xs i (two o t u) n → SubtreeAt xs (root_of n t) t n
-  left-of-two i o t u n s = front-subtree (i + 1) s.before _ t n (s.split ∙ sym (append_assoc s.before (postfix t) _)) s.counted
+  pub left_of_two : (i : ℕ) (o : Binary) (t u : Tree) (n : ℕ) → SubtreeAt xs i (two o t u) n → SubtreeAt xs (root_of n t) t n
+  left_of_two i o t u n s = front_subtree (i + 1) s.before _ t n (s.split ∙ sym (append_assoc s.before (postfix t) _)) s.counted
 
-  pub right-of-two : (i : ℕ) (o : Binary) (t u : Tree) (n : ℕ) → SubtreeAt xs i (two o t u) n → SubtreeAt xs (root_of (n + node_count t) u) u (n + node_count t)
-  right-of-two i o t u n s =
-      front-subtree (i + 1) (s.before ++ postfix t) _ u (n + node_count t)
+  pub right_of_two : (i : ℕ) (o : Binary) (t u : Tree) (n : ℕ) → SubtreeAt xs i (two o t u) n → SubtreeAt xs (root_of (n + node_count t) u) u (n + node_count t)
+  right_of_two i o t u n s =
+      front_subtree (i + 1) (s.before ++ postfix t) _ u (n + node_count t)
       (s.split ∙ sym (append_assoc s.before (postfix t) _) ∙ sym (append_assoc (s.before ++ postfix t) (postfix u) _))
       (omega (arith, s.counted, length-postfix t, length-append s.before (postfix t)))
 
@@ -70,19 +70,19 @@ module _ (xs : List Node) where
       go (two o u v) e = at _ _ (e ∙ sym (append_assoc s.before (postfix u) _) ∙ sym (append_assoc (s.before ++ postfix u) (postfix v) _))
 
   -- a node is the root of at most one subtree
-  newest-there : (i : ℕ) (t : Tree) (n : ℕ) → SubtreeAt xs i t n → newest (forest [] (take (i + 1) xs)) ≡ t
-  newest-there i t n s =
+  newest_there : (i : ℕ) (t : Tree) (n : ℕ) → SubtreeAt xs i t n → newest (forest [] (take (i + 1) xs)) ≡ t
+  newest_there i t n s =
       ap (λ l. newest (forest [] l)) s.split
       ∙ ap newest (forest-append [] s.before (postfix t) ∙ forest-postfix t (forest [] s.before))
 
-  pub one-subtree : (i : ℕ) (t : Tree) (n : ℕ) (u : Tree) (m : ℕ) → SubtreeAt xs i t n → SubtreeAt xs i u m → (u ≡ t) × (m ≡ n)
-  one-subtree i t n u m s r =
-      let same : u ≡ t = sym (newest-there i u m r) ∙ newest-there i t n s in
+  pub one_subtree : (i : ℕ) (t : Tree) (n : ℕ) (u : Tree) (m : ℕ) → SubtreeAt xs i t n → SubtreeAt xs i u m → (u ≡ t) × (m ≡ n)
+  one_subtree i t n u m s r =
+      let same : u ≡ t = sym (newest_there i u m r) ∙ newest_there i t n s in
       (same, omega (arith, root_is i t n s, root_is i u m r, ap node_count same))
 
   -- and of one at least
-  from-clean : Clean 0 xs → (i : ℕ) → i < length xs → (t : Tree) × ((n : ℕ) × SubtreeAt xs i t n)
-  from-clean clean i h = go (forest [] (take (i + 1) xs)) refl
+  from_clean : Clean 0 xs → (i : ℕ) → i < length xs → (t : Tree) × ((n : ℕ) × SubtreeAt xs i t n)
+  from_clean clean i h = go (forest [] (take (i + 1) xs)) refl
     where
       there : Stood [] (take (i + 1) xs)
       there = stood [] (take (i + 1) xs) (clean_take 0 (i + 1) xs clean)
@@ -95,9 +95,9 @@ module _ (xs : List Node) where
 pub subtree_of : (v : ℕ) (xs : List Node) → StatementGranted v xs → (i : ℕ) → i < length xs → (t : Tree) × ((n : ℕ) × SubtreeAt xs i t n)
 subtree_of v xs g =
     let found = tree_of v xs g in
-    from-clean xs (subst (Clean 0) found.1.nodes_are (postfix_clean found.0))
+    from_clean xs (subst (Clean 0) found.1.nodes_are (postfix_clean found.0))
 
 pub one_subtree_each_lem : OneSubtreeEach
 one_subtree_each_lem v xs g i h =
     let found = subtree_of v xs g i h in
-    (found.0, found.1.0, found.1.1, λ u m s. one-subtree xs i found.0 found.1.0 u m found.1.1 s)
+    (found.0, found.1.0, found.1.1, λ u m s. one_subtree xs i found.0 found.1.0 u m found.1.1 s)

@@ -3,5 +3,5 @@ use Rattle.std.proofs.Common.{◌≡◌, ℕ, suc, ◌-◌, ◌^◌, ◌<◌, �
 use Rattle.std.proofs.lemmas.Int.{ints}
 use Rattle.operators.specs.Operators.{signed, SignedReading}
 
-pub signed-reading : SignedReading
-signed-reading w h = (λ low. grind (arith, ints), λ high. grind (arith, ints))
+pub signed_reading_lem : SignedReading
+signed_reading_lem w h = (λ low. grind (arith, ints), λ high. grind (arith, ints))

@@ -13,12 +13,12 @@ pub whole_step : (n : ℕ) (x : Item) (xs : List Item) → (n ≡ 0 → ⊥) →
 whole_step zero x xs h = absurd (h refl)
 whole_step (suc n) x xs h = let back : n ≡ suc n - 1 = omega arith in ap (λ k. whole_from (item_parts x + k) xs) back
 
-pub parts-few : (x : Item) → item_parts x ≤ 2
-parts-few (Operand a) = omega arith
-parts-few (Unary o) = omega arith
-parts-few (Binary o) = omega arith
-parts-few (Constant i) = omega arith
-parts-few Variable = omega arith
+pub parts_few : (x : Item) → item_parts x ≤ 2
+parts_few (Operand a) = omega arith
+parts_few (Unary o) = omega arith
+parts_few (Binary o) = omega arith
+parts_few (Constant i) = omega arith
+parts_few Variable = omega arith
 
 pub operands_few : (x : Item) → operands_in x ≤ 1
 operands_few (Operand a) = omega arith
@@ -27,35 +27,35 @@ operands_few (Binary o) = omega arith
 operands_few (Constant i) = omega arith
 operands_few Variable = omega arith
 
-pub leaves-few : (x : Item) → leaves_in x ≤ 1
-leaves-few (Operand a) = omega arith
-leaves-few (Unary o) = omega arith
-leaves-few (Binary o) = omega arith
-leaves-few (Constant i) = omega arith
-leaves-few Variable = omega arith
+pub leaves_few : (x : Item) → leaves_in x ≤ 1
+leaves_few (Operand a) = omega arith
+leaves_few (Unary o) = omega arith
+leaves_few (Binary o) = omega arith
+leaves_few (Constant i) = omega arith
+leaves_few Variable = omega arith
 
 -- the items before the last of a front
 module _ (xs : List Item) (i : ℕ) (x : Item) (some : 0 < i) (within : i ≤ length xs) (is : x ≡ get_or xs (i - 1) x) where
   back : i - 1 + 1 ≡ i
   back = omega arith
 
-  front-last : take i xs ≡ take (i - 1) xs ++ x ∷ []
-  front-last =
+  front_last : take i xs ≡ take (i - 1) xs ++ x ∷ []
+  front_last =
       ap (λ k. take k xs) (sym back) ∙ take_more xs (i - 1) x (omega arith) ∙ ap (λ y. take (i - 1) xs ++ y ∷ []) (sym is)
 
-  pub operands-last : count_of_operands (take i xs) ≡ count_of_operands (take (i - 1) xs) + operands_in x
-  operands-last = ap count_of_operands front-last ∙ operands_push (take (i - 1) xs)
+  pub operands_last : count_of_operands (take i xs) ≡ count_of_operands (take (i - 1) xs) + operands_in x
+  operands_last = ap count_of_operands front_last ∙ operands_push (take (i - 1) xs)
     where
       operands_push : (ys : List Item) → count_of_operands (ys ++ x ∷ []) ≡ count_of_operands ys + operands_in x
       operands_push [] = omega arith
       operands_push (y ∷ ys) = omega (arith, operands_push ys)
 
   pub leaves_last : count_of_leaves (take i xs) ≡ count_of_leaves (take (i - 1) xs) + leaves_in x
-  leaves_last = ap count_of_leaves front-last ∙ leaves-push (take (i - 1) xs)
+  leaves_last = ap count_of_leaves front_last ∙ leaves_push (take (i - 1) xs)
     where
-      leaves-push : (ys : List Item) → count_of_leaves (ys ++ x ∷ []) ≡ count_of_leaves ys + leaves_in x
-      leaves-push [] = omega arith
-      leaves-push (y ∷ ys) = omega (arith, leaves-push ys)
+      leaves_push : (ys : List Item) → count_of_leaves (ys ++ x ∷ []) ≡ count_of_leaves ys + leaves_in x
+      leaves_push [] = omega arith
+      leaves_push (y ∷ ys) = omega (arith, leaves_push ys)
 
-  pub rest-last : {Y : Type 0} (F : List Item → Y) → F (drop (i - 1) xs) ≡ F (x ∷ drop i xs)
-  rest-last F = step F xs (i - 1) x (omega arith) is ∙ ap (λ k. F (x ∷ drop k xs)) back
+  pub rest_last : {Y : Type 0} (F : List Item → Y) → F (drop (i - 1) xs) ≡ F (x ∷ drop i xs)
+  rest_last F = step F xs (i - 1) x (omega arith) is ∙ ap (λ k. F (x ∷ drop k xs)) back

@@ -34,17 +34,17 @@ module _ (σ : List ℕ) where
       ap (λ ys. top (values_from σ ys vs ws)) (sym e ∙ sym (append-nil (reading p))) ∙ ap top (values-reading p [] vs ws)
 
   -- one item more, where o and l operands and leaves stand before it
-  pub item-more : (x : Item) (xs : List Item) (vs ws : List ℕ) (o l : ℕ) → values_from σ (x ∷ xs) (drop o vs) (drop l ws) ≡ item_values σ x (get_or vs o 0) (get_or ws l 0) (values_from σ xs (drop (o + operands_in x) vs) (drop (l + leaves_in x) ws))
-  item-more x xs vs ws o l =
+  pub item_more : (x : Item) (xs : List Item) (vs ws : List ℕ) (o l : ℕ) → values_from σ (x ∷ xs) (drop o vs) (drop l ws) ≡ item_values σ x (get_or vs o 0) (get_or ws l 0) (values_from σ xs (drop (o + operands_in x) vs) (drop (l + leaves_in x) ws))
+  item_more x xs vs ws o l =
       let o_is = get_or-drop o vs 0 0 ∙ ap (λ k. get_or vs k 0) (add-zero o) in
       let l-is = get_or-drop l ws 0 0 ∙ ap (λ k. get_or ws k 0) (add-zero l) in
       let vs' = drop-drop (operands_in x) o vs in
       let ws' = drop-drop (leaves_in x) l ws in
       λ i. item_values σ x (o_is i) (l-is i) (values_from σ xs (vs' i) (ws' i))
 
-  pub item-one : (x : Item) (v w : ℕ) (after : List ℕ) → length (item_values σ x v w after) ≤ length after + 1
-  item-one (Operand a) v w after = omega arith
-  item-one (Unary o) v w after = omega (arith, length-under after)
-  item-one (Binary o) v w after = omega (arith, length-under after, length-under (under after))
-  item-one (Constant i) v w after = omega arith
-  item-one Variable v w after = omega arith
+  pub item_one : (x : Item) (v w : ℕ) (after : List ℕ) → length (item_values σ x v w after) ≤ length after + 1
+  item_one (Operand a) v w after = omega arith
+  item_one (Unary o) v w after = omega (arith, length-under after)
+  item_one (Binary o) v w after = omega (arith, length-under after, length-under (under after))
+  item_one (Constant i) v w after = omega arith
+  item_one Variable v w after = omega arith

@@ -42,11 +42,11 @@ shapes_reading (binary_shape o p q) xs =
 abbrev pub shape_from : List Item → Shape
 shape_from xs = foremost (shapes_from xs)
 
-pub shape-reading : (p : Shape) (xs : List Item) → reading p ≡ xs → shape_from xs ≡ p
-shape-reading p xs e = ap shape_from (sym e ∙ sym (append-nil (reading p))) ∙ ap foremost (shapes_reading p [])
+pub shape_reading : (p : Shape) (xs : List Item) → reading p ≡ xs → shape_from xs ≡ p
+shape_reading p xs e = ap shape_from (sym e ∙ sym (append-nil (reading p))) ∙ ap foremost (shapes_reading p [])
 
 pub one_shape_at_most_lem : OneShapeAtMost
-one_shape_at_most_lem p q e = sym (shape-reading p (reading q) e) ∙ shape-reading q (reading q) refl
+one_shape_at_most_lem p q e = sym (shape_reading p (reading q) e) ∙ shape_reading q (reading q) refl
 
 -- the items of shapes side by side
 abbrev readings : List Shape → List Item
@@ -81,8 +81,8 @@ only (p ∷ []) xs s = sym (append-nil (reading p)) ∙ s.items
 only (p ∷ q ∷ ps) xs s = absurd (omega (arith, s.count))
 
 -- a whole list is the reading of its shape
-pub reading-shape : (xs : List Item) → whole_from 1 xs ≡ true → reading (shape_from xs) ≡ xs
-reading-shape xs w = only (shapes_from xs) xs (standing 1 xs w)
+pub reading_shape : (xs : List Item) → whole_from 1 xs ≡ true → reading (shape_from xs) ≡ xs
+reading_shape xs w = only (shapes_from xs) xs (standing 1 xs w)
 
 -- the other way: after a shape's items one pattern less is wanted
 pub whole_reading : (p : Shape) (n : ℕ) (xs : List Item) → whole_from (suc n) (reading p ++ xs) ≡ whole_from n xs
@@ -100,6 +100,6 @@ whole_reading (binary_shape o p q) n xs =
 
 pub whole_is_shape_lem : WholeIsShape
 whole_is_shape_lem xs = (
-  λ w. (shape_from xs, reading-shape xs w),
+  λ w. (shape_from xs, reading_shape xs w),
   λ p e. ap (whole_from 1) (sym e ∙ sym (append-nil (reading p))) ∙ whole_reading p 0 [],
 )

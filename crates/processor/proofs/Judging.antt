@@ -13,7 +13,7 @@ use Rattle.board.specs.Machines.{Machine, Operation, operation_of, operand_lette
 use Rattle.board.specs.Payloads.{admits_all}
 use Rattle.board.specs.Instructions.{operand_list, leaf_list, instruction_operands, instruction_leaves, Denotes}
 use Rattle.board.specs.Acts.{last_of, board_order, IssueFails, unknown_opcode, operands_lacking, payload_barred, too_deep, no_room, StoreFails, operand_lacking, variable_over, no_room_to_store}
-use Rattle.board.proofs.Lists.{operands_counted, leaves-counted, operands_read, leaves_read}
+use Rattle.board.proofs.Lists.{operands_counted, leaves_counted, operands_read, leaves_read}
 use Rattle.processor.specs.Boards.{IssueAllowed, StoreAllowed}
 
 pub some_same : {X : Type 0} {x y : X} {o : Option X} → o ≡ Some x → o ≡ Some y → x ≡ y
@@ -38,24 +38,24 @@ module _ (i : Instruction) (o : Operation) (is : Denotes i o) where
   pub leaves_are : instruction_leaves i ≡ operation_leaves o
   leaves_are = ap leaf_list is.meaning_is ∙ leaves_read o.shape
 
-  pub arity-is : i.meaning.operands ≡ arity o
-  arity-is = i.meaning.counted ∙ sym (operands_counted (items_of i.meaning)) ∙ ap length operands_are
+  pub arity_is : i.meaning.operands ≡ arity o
+  arity_is = i.meaning.counted ∙ sym (operands_counted (items_of i.meaning)) ∙ ap length operands_are
 
-  pub leaf-total-is : i.meaning.leaves ≡ leaf_total o
-  leaf-total-is = i.meaning.tallied ∙ sym (leaves-counted (items_of i.meaning)) ∙ ap length leaves_are
+  pub leaf_total_is : i.meaning.leaves ≡ leaf_total o
+  leaf_total_is = i.meaning.tallied ∙ sym (leaves_counted (items_of i.meaning)) ∙ ap length leaves_are
 
   -- what the test of the operands that wait says
-  pub waits-from : (w : List ℕ) → bytes_eq (last_of (length (instruction_operands i)) w) (instruction_operands i) ≡ true → last_of (arity o) w ≡ operand_letters o
-  waits-from w e =
+  pub waits_from : (w : List ℕ) → bytes_eq (last_of (length (instruction_operands i)) w) (instruction_operands i) ≡ true → last_of (arity o) w ≡ operand_letters o
+  waits_from w e =
       (bytes_eq-Decides _ _).0 (subst (λ ls. bytes_eq (last_of (length ls) w) ls ≡ true) operands_are e)
 
-  pub lacks-from : (w : List ℕ) → bytes_eq (last_of (length (instruction_operands i)) w) (instruction_operands i) ≡ false → last_of (arity o) w ≡ operand_letters o → ⊥
-  lacks-from w e h =
+  pub lacks_from : (w : List ℕ) → bytes_eq (last_of (length (instruction_operands i)) w) (instruction_operands i) ≡ false → last_of (arity o) w ≡ operand_letters o → ⊥
+  lacks_from w e h =
       both_ways _ (subst (λ ls. bytes_eq (last_of (length ls) w) ls ≡ false) operands_are e) ((bytes_eq-Decides _ _).1 h)
 
   -- the leaves admit these payloads, or not
-  pub admits-at : (ws : List ℕ) {r b : Bool} → r ≡ admits_all (instruction_leaves i) ws → r ≡ b → admits_all (operation_leaves o) ws ≡ b
-  admits-at ws e h = ap (λ ls. admits_all ls ws) (sym leaves_are) ∙ sym e ∙ h
+  pub admits_at : (ws : List ℕ) {r b : Bool} → r ≡ admits_all (instruction_leaves i) ws → r ≡ b → admits_all (operation_leaves o) ws ≡ b
+  admits_at ws e h = ap (λ ls. admits_all ls ws) (sym leaves_are) ∙ sym e ∙ h
 
 -- the last operands that wait are as many as that
 pub enough_wait : (w ls : List ℕ) → last_of (length ls) w ≡ ls → length ls ≤ length w
@@ -63,88 +63,88 @@ enough_wait w ls e = omega (arith, ap length e, length-drop (length w - length l
 
 module _ (m : Machine) (w : List ℕ) (free op a b : ℕ) where
   -- where nothing speaks against an issue, no condition holds
-  pub issue-granted : (o : Operation) → IssueAllowed m w free op a b o → GrantedBy (IssueFails m w free op a b)
-  issue-granted o h k p (unknown_opcode _ _ e) = none_some e h.is
-  issue-granted o h k p (operands_lacking q _ _ e f) =
+  pub issue_granted : (o : Operation) → IssueAllowed m w free op a b o → GrantedBy (IssueFails m w free op a b)
+  issue_granted o h k p (unknown_opcode _ _ e) = none_some e h.is
+  issue_granted o h k p (operands_lacking q _ _ e f) =
       f (subst (λ x. last_of (arity x) w ≡ operand_letters x) (some_same h.is e) h.operands_wait)
-  issue-granted o h k p (payload_barred q _ _ e f) =
+  issue_granted o h k p (payload_barred q _ _ e f) =
       both_ways (admits_all (operation_leaves q) (a ∷ b ∷ [])) f (subst (λ x. admits_all (operation_leaves x) (a ∷ b ∷ []) ≡ true) (some_same h.is e) h.admitted_both)
-  issue-granted o h k p (too_deep q _ _ e f) =
+  issue_granted o h k p (too_deep q _ _ e f) =
       let g = subst (λ x. length w - arity x + 1 ≤ m.deepest) (some_same h.is e) h.shallow in omega arith
-  issue-granted o h k p (no_room q _ _ e f) =
+  issue_granted o h k p (no_room q _ _ e f) =
       let g = subst (λ x. 1 + leaf_total x ≤ free) (some_same h.is e) h.room in omega arith
 
   turned : {j n t : ℕ} → j ≡ n → turn_of board_order j < t → turn_of board_order n < t
   turned {j} {n} {t} e l = subst (λ x. turn_of board_order x < t) e l
 
   -- no condition of a turn below t holds where what is checked before is in order
-  pub issue-none-before : (o : Operation) → operation_of m op ≡ Some o → (t : ℕ) → (1 < t → last_of (arity o) w ≡ operand_letters o) → (2 < t → admits_all (operation_leaves o) (a ∷ b ∷ []) ≡ true) → (3 < t → length w - arity o + 1 ≤ m.deepest) → t ≤ 4 → (j q : ℕ) → turn_of board_order j < t → IssueFails m w free op a b j q → ⊥
-  issue-none-before o is t h2 h3 h4 few j q l (unknown_opcode _ _ e) = none_some e is
-  issue-none-before o is t h2 h3 h4 few j q l (operands_lacking x n _ e f) =
+  pub issue_none_before : (o : Operation) → operation_of m op ≡ Some o → (t : ℕ) → (1 < t → last_of (arity o) w ≡ operand_letters o) → (2 < t → admits_all (operation_leaves o) (a ∷ b ∷ []) ≡ true) → (3 < t → length w - arity o + 1 ≤ m.deepest) → t ≤ 4 → (j q : ℕ) → turn_of board_order j < t → IssueFails m w free op a b j q → ⊥
+  issue_none_before o is t h2 h3 h4 few j q l (unknown_opcode _ _ e) = none_some e is
+  issue_none_before o is t h2 h3 h4 few j q l (operands_lacking x n _ e f) =
       f (subst (λ y. last_of (arity y) w ≡ operand_letters y) (some_same is e) (h2 (turned n l)))
-  issue-none-before o is t h2 h3 h4 few j q l (payload_barred x n _ e f) =
+  issue_none_before o is t h2 h3 h4 few j q l (payload_barred x n _ e f) =
       both_ways (admits_all (operation_leaves x) (a ∷ b ∷ [])) f (subst (λ y. admits_all (operation_leaves y) (a ∷ b ∷ []) ≡ true) (some_same is e) (h3 (turned n l)))
-  issue-none-before o is t h2 h3 h4 few j q l (too_deep x n _ e f) =
+  issue_none_before o is t h2 h3 h4 few j q l (too_deep x n _ e f) =
       let g = subst (λ y. length w - arity y + 1 ≤ m.deepest) (some_same is e) (h4 (turned n l)) in omega arith
-  issue-none-before o is t h2 h3 h4 few j q l (no_room x n _ e f) = let late : 4 < t = turned n l in omega arith
+  issue_none_before o is t h2 h3 h4 few j q l (no_room x n _ e f) = let late : 4 < t = turned n l in omega arith
 
-  pub refused-unknown : operation_of m op ≡ None → RefusedBy board_order (IssueFails m w free op a b) 21 (length w)
-  refused-unknown e = record { applies = unknown_opcode refl refl e; none_before = λ j q l f. omega arith }
+  pub refused_unknown : operation_of m op ≡ None → RefusedBy board_order (IssueFails m w free op a b) 21 (length w)
+  refused_unknown e = record { applies = unknown_opcode refl refl e; none_before = λ j q l f. omega arith }
 
   module _ (o : Operation) (is : operation_of m op ≡ Some o) where
-    pub refused-operands : (last_of (arity o) w ≡ operand_letters o → ⊥) → RefusedBy board_order (IssueFails m w free op a b) 22 (length w)
-    refused-operands f = record {
+    pub refused_operands : (last_of (arity o) w ≡ operand_letters o → ⊥) → RefusedBy board_order (IssueFails m w free op a b) 22 (length w)
+    refused_operands f = record {
       applies = operands_lacking o refl refl is f;
-      none_before = issue-none-before o is 1 (λ l. absurd (omega arith)) (λ l. absurd (omega arith)) (λ l. absurd (omega arith)) (omega arith);
+      none_before = issue_none_before o is 1 (λ l. absurd (omega arith)) (λ l. absurd (omega arith)) (λ l. absurd (omega arith)) (omega arith);
     }
 
     module _ (wait : last_of (arity o) w ≡ operand_letters o) where
-      pub refused-payload : admits_all (operation_leaves o) (a ∷ b ∷ []) ≡ false → RefusedBy board_order (IssueFails m w free op a b) 23 (length w)
-      refused-payload f = record {
+      pub refused_payload : admits_all (operation_leaves o) (a ∷ b ∷ []) ≡ false → RefusedBy board_order (IssueFails m w free op a b) 23 (length w)
+      refused_payload f = record {
         applies = payload_barred o refl refl is f;
-        none_before = issue-none-before o is 2 (λ l. wait) (λ l. absurd (omega arith)) (λ l. absurd (omega arith)) (omega arith);
+        none_before = issue_none_before o is 2 (λ l. wait) (λ l. absurd (omega arith)) (λ l. absurd (omega arith)) (omega arith);
       }
 
       module _ (admitted_both : admits_all (operation_leaves o) (a ∷ b ∷ []) ≡ true) where
-        pub refused-depth : m.deepest < length w - arity o + 1 → RefusedBy board_order (IssueFails m w free op a b) 24 (length w)
-        refused-depth f = record {
+        pub refused_depth : m.deepest < length w - arity o + 1 → RefusedBy board_order (IssueFails m w free op a b) 24 (length w)
+        refused_depth f = record {
           applies = too_deep o refl refl is f;
-          none_before = issue-none-before o is 3 (λ l. wait) (λ l. admitted_both) (λ l. absurd (omega arith)) (omega arith);
+          none_before = issue_none_before o is 3 (λ l. wait) (λ l. admitted_both) (λ l. absurd (omega arith)) (omega arith);
         }
 
-        pub refused-room : length w - arity o + 1 ≤ m.deepest → free < 1 + leaf_total o → RefusedBy board_order (IssueFails m w free op a b) 25 (length w)
-        refused-room h f = record {
+        pub refused_room : length w - arity o + 1 ≤ m.deepest → free < 1 + leaf_total o → RefusedBy board_order (IssueFails m w free op a b) 25 (length w)
+        refused_room h f = record {
           applies = no_room o refl refl is f;
-          none_before = issue-none-before o is 4 (λ l. wait) (λ l. admitted_both) (λ l. h) (omega arith);
+          none_before = issue_none_before o is 4 (λ l. wait) (λ l. admitted_both) (λ l. h) (omega arith);
         }
 
 module _ (m : Machine) (w : List ℕ) (free v : ℕ) where
-  pub store-granted : StoreAllowed m w free v → GrantedBy (StoreFails m w free v)
-  store-granted h k p (operand_lacking _ _ f) = f h.operand_waits
-  store-granted h k p (variable_over _ _ f) = omega (arith, h.within)
-  store-granted h k p (no_room_to_store _ _ f) = omega (arith, h.room)
+  pub store_granted : StoreAllowed m w free v → GrantedBy (StoreFails m w free v)
+  store_granted h k p (operand_lacking _ _ f) = f h.operand_waits
+  store_granted h k p (variable_over _ _ f) = omega (arith, h.within)
+  store_granted h k p (no_room_to_store _ _ f) = omega (arith, h.room)
 
   later : {j n t : ℕ} → j ≡ n → turn_of board_order j < t → turn_of board_order n < t
   later {j} {n} {t} e l = subst (λ x. turn_of board_order x < t) e l
 
-  pub refused-store-operand : (last_of 1 w ≡ m.store_letter ∷ [] → ⊥) → RefusedBy board_order (StoreFails m w free v) 22 (length w)
-  refused-store-operand f = record { applies = operand_lacking refl refl f; none_before = none }
+  pub refused_store_operand : (last_of 1 w ≡ m.store_letter ∷ [] → ⊥) → RefusedBy board_order (StoreFails m w free v) 22 (length w)
+  refused_store_operand f = record { applies = operand_lacking refl refl f; none_before = none }
     where
       none : (j q : ℕ) → turn_of board_order j < 1 → StoreFails m w free v j q → ⊥
       none j q l (operand_lacking n _ _) = let late : 1 < 1 = later n l in omega arith
       none j q l (variable_over n _ _) = let late : 2 < 1 = later n l in omega arith
       none j q l (no_room_to_store n _ _) = let late : 4 < 1 = later n l in omega arith
 
-  pub refused-store-variable : last_of 1 w ≡ m.store_letter ∷ [] → 63 < v → RefusedBy board_order (StoreFails m w free v) 23 (length w)
-  refused-store-variable h f = record { applies = variable_over refl refl f; none_before = none }
+  pub refused_store_variable : last_of 1 w ≡ m.store_letter ∷ [] → 63 < v → RefusedBy board_order (StoreFails m w free v) 23 (length w)
+  refused_store_variable h f = record { applies = variable_over refl refl f; none_before = none }
     where
       none : (j q : ℕ) → turn_of board_order j < 2 → StoreFails m w free v j q → ⊥
       none j q l (operand_lacking n _ g) = g h
       none j q l (variable_over n _ _) = let late : 2 < 2 = later n l in omega arith
       none j q l (no_room_to_store n _ _) = let late : 4 < 2 = later n l in omega arith
 
-  pub refused-store-room : last_of 1 w ≡ m.store_letter ∷ [] → v ≤ 63 → free < 2 → RefusedBy board_order (StoreFails m w free v) 25 (length w)
-  refused-store-room h r f = record { applies = no_room_to_store refl refl f; none_before = none }
+  pub refused_store_room : last_of 1 w ≡ m.store_letter ∷ [] → v ≤ 63 → free < 2 → RefusedBy board_order (StoreFails m w free v) 25 (length w)
+  refused_store_room h r f = record { applies = no_room_to_store refl refl f; none_before = none }
     where
       none : (j q : ℕ) → turn_of board_order j < 4 → StoreFails m w free v j q → ⊥
       none j q l (operand_lacking n _ g) = g h

@@ -15,10 +15,10 @@ use Rattle.processor.specs.Codes.{issue_taken, taken, waiting_by, waiting_after,
 use Rattle.processor.specs.Soundness.{Sound, issue_word, store_word}
 use Rattle.processor.specs.Boards.{outcome_by, state_of, Belongs, IssueAllowed, StoreAllowed}
 use Rattle.processor.specs.Meanings.{meant_by, meant, meant_all, untouched}
-use Rattle.processor.proofs.Lines.{decoded-encoded, encoded-push, taken-push, waiting-push}
-use Rattle.processor.proofs.Runs.{code_runs, starts-empty}
+use Rattle.processor.proofs.Lines.{decoded-encoded, encoded_push, taken_push, waiting_push}
+use Rattle.processor.proofs.Runs.{code_runs, starts_empty}
 use Rattle.processor.proofs.Spare.{value_spare, admits_spare}
-use Rattle.processor.proofs.Judging.{issue-granted, store-granted}
+use Rattle.processor.proofs.Judging.{issue_granted, store_granted}
 
 meant_push : (m : Machine) (x : Outcome) (code : List Act) (a : Act) → meant_all m x (code ++ a ∷ []) ≡ meant m (meant_all m x code) a
 meant_push m x [] a = refl
@@ -29,10 +29,10 @@ ends_by ps x None = refl
 ends_by ps x (Some o) = refl
 
 -- a setting keeps its length
-ends-length : (m : Machine) (x : Outcome) (code : List Act) → length (meant_all m x code).ends ≡ length x.ends
-ends-length m x [] = refl
-ends-length m x (did_issue op ps ∷ rest) = ends-length m (meant m x (did_issue op ps)) rest ∙ ends_by ps x (operation_of m op)
-ends-length m x (did_store v ∷ rest) = ends-length m (meant m x (did_store v)) rest ∙ length-set x.ends v _
+ends_length : (m : Machine) (x : Outcome) (code : List Act) → length (meant_all m x code).ends ≡ length x.ends
+ends_length m x [] = refl
+ends_length m x (did_issue op ps ∷ rest) = ends_length m (meant m x (did_issue op ps)) rest ∙ ends_by ps x (operation_of m op)
+ends_length m x (did_store v ∷ rest) = ends_length m (meant m x (did_store v)) rest ∙ length-set x.ends v _
 
 module _ (d : Design) (sound : Sound d) (ws w : List ℕ) (belongs : Belongs d ws w) where
   -- one act more
@@ -41,66 +41,66 @@ module _ (d : Design) (sound : Sound d) (ws w : List ℕ) (belongs : Belongs d w
     here = ap (λ w'. taken d.fixed_part w' a) belongs.2 ∙ t
 
     all : all_taken d.fixed_part [] (decoded d ws ++ a ∷ []) ≡ true
-    all = taken-push d.fixed_part [] (decoded d ws) a belongs.1 here
+    all = taken_push d.fixed_part [] (decoded d ws) a belongs.1 here
 
     words_more : encoded d [] (decoded d ws ++ a ∷ []) ≡ ws ++ act_words d w a
-    words_more = encoded-push d [] (decoded d ws) a ∙ (λ i. belongs.0 i ++ act_words d (belongs.2 i) a)
+    words_more = encoded_push d [] (decoded d ws) a ∙ (λ i. belongs.0 i ++ act_words d (belongs.2 i) a)
 
-    pub decoded-more : decoded d (ws ++ act_words d w a) ≡ decoded d ws ++ a ∷ []
-    decoded-more = ap (decoded d) (sym words_more) ∙ decoded-encoded d sound [] (decoded d ws ++ a ∷ []) all
+    pub decoded_more : decoded d (ws ++ act_words d w a) ≡ decoded d ws ++ a ∷ []
+    decoded_more = ap (decoded d) (sym words_more) ∙ decoded-encoded d sound [] (decoded d ws ++ a ∷ []) all
 
-    pub belongs-more : Belongs d (ws ++ act_words d w a) (waiting_after d.fixed_part w a)
-    belongs-more = (
-      ap (encoded d []) decoded-more ∙ words_more,
-      ap (all_taken d.fixed_part []) decoded-more ∙ all,
-      ap (waiting_after_all d.fixed_part []) decoded-more ∙ waiting-push d.fixed_part [] (decoded d ws) a ∙ ap (λ w'. waiting_after d.fixed_part w' a) belongs.2,
+    pub belongs_more : Belongs d (ws ++ act_words d w a) (waiting_after d.fixed_part w a)
+    belongs_more = (
+      ap (encoded d []) decoded_more ∙ words_more,
+      ap (all_taken d.fixed_part []) decoded_more ∙ all,
+      ap (waiting_after_all d.fixed_part []) decoded_more ∙ waiting_push d.fixed_part [] (decoded d ws) a ∙ ap (λ w'. waiting_after d.fixed_part w' a) belongs.2,
     )
 
   -- how the words run
   pub record WordsRun (σ : List ℕ) : Type 0 where
     pub at_end : Running
     pub through : simulated d 0 ws (from_start d σ) ≡ left at_end
-    pub still-held : d.holds w at_end.own_now ≡ true
+    pub still_held : d.holds w at_end.own_now ≡ true
     pub means : outcome_by d w (left at_end) ≡ meant_all d.fixed_part (untouched σ) (decoded d ws)
 
-  pub words-run : (σ : List ℕ) → WordsRun σ
-  words-run σ =
+  pub words_run : (σ : List ℕ) → WordsRun σ
+  words_run σ =
       let r = code_runs d sound [] (decoded d ws) 0 (from_start d σ) belongs.1 sound.starts in
       record {
         at_end = r.at_end;
         through = ap (λ us. simulated d 0 us (from_start d σ)) (sym belongs.0) ∙ r.through;
-        still-held = ap (λ w'. d.holds w' r.at_end.own_now) (sym belongs.2) ∙ r.still-held;
+        still_held = ap (λ w'. d.holds w' r.at_end.own_now) (sym belongs.2) ∙ r.still_held;
         means = ap (λ w'. outcome_by d w' (left r.at_end)) (sym belongs.2) ∙ r.means
-            ∙ ap (λ x. meant_all d.fixed_part x (decoded d ws)) (starts-empty d sound σ);
+            ∙ ap (λ x. meant_all d.fixed_part x (decoded d ws)) (starts_empty d sound σ);
       }
 
   -- the effect of the words is what the meanings say
-  pub effect-meant : (free : ℕ) (σ : List ℕ) → (state_of d ws free w).effect σ ≡ meant_all d.fixed_part (untouched σ) (decoded d ws)
-  effect-meant free σ = ap (outcome_by d w) (words-run σ).through ∙ (words-run σ).means
+  pub effect_meant : (free : ℕ) (σ : List ℕ) → (state_of d ws free w).effect σ ≡ meant_all d.fixed_part (untouched σ) (decoded d ws)
+  effect_meant free σ = ap (outcome_by d w) (words_run σ).through ∙ (words_run σ).means
 
   pub state_lawful : (free : ℕ) → LawfulState (state_of d ws free w)
   state_lawful free = record {
     nothing_waits = λ e. sym belongs.2 ∙ ap (waiting_after_all d.fixed_part []) e;
-    ends_as_itself = λ e σ h. ap (λ x. x.ends) (effect-meant free σ) ∙ ap (λ code. (meant_all d.fixed_part (untouched σ) code).ends) e;
-    value_each = λ σ h. ap (λ x. length x.held_values) (ap (outcome_by d w) (words-run σ).through) ∙ sound.value_each w (words-run σ).at_end.own_now (words-run σ).still-held;
-    settings_whole = λ σ h. ap (λ x. length x.ends) (effect-meant free σ) ∙ ends-length d.fixed_part (untouched σ) (decoded d ws) ∙ h;
+    ends_as_itself = λ e σ h. ap (λ x. x.ends) (effect_meant free σ) ∙ ap (λ code. (meant_all d.fixed_part (untouched σ) code).ends) e;
+    value_each = λ σ h. ap (λ x. length x.held_values) (ap (outcome_by d w) (words_run σ).through) ∙ sound.value_each w (words_run σ).at_end.own_now (words_run σ).still_held;
+    settings_whole = λ σ h. ap (λ x. length x.ends) (effect_meant free σ) ∙ ends_length d.fixed_part (untouched σ) (decoded d ws) ∙ h;
   }
 
 module _ (d : Design) (sound : Sound d) (ws w : List ℕ) (belongs : Belongs d ws w) (free : ℕ) where
   -- the effect of one act more
-  effect-more : (a : Act) (t : taken d.fixed_part w a ≡ true) (free' : ℕ) (σ : List ℕ) → (state_of d (ws ++ act_words d w a) free' (waiting_after d.fixed_part w a)).effect σ ≡ meant d.fixed_part ((state_of d ws free w).effect σ) a
-  effect-more a t free' σ =
-      effect-meant d sound _ _ (belongs-more d sound ws w belongs a t) free' σ
-      ∙ ap (meant_all d.fixed_part (untouched σ)) (decoded-more d sound ws w belongs a t)
+  effect_more : (a : Act) (t : taken d.fixed_part w a ≡ true) (free' : ℕ) (σ : List ℕ) → (state_of d (ws ++ act_words d w a) free' (waiting_after d.fixed_part w a)).effect σ ≡ meant d.fixed_part ((state_of d ws free w).effect σ) a
+  effect_more a t free' σ =
+      effect_meant d sound _ _ (belongs_more d sound ws w belongs a t) free' σ
+      ∙ ap (meant_all d.fixed_part (untouched σ)) (decoded_more d sound ws w belongs a t)
       ∙ meant_push d.fixed_part (untouched σ) (decoded d ws) a
-      ∙ ap (λ x. meant d.fixed_part x a) (sym (effect-meant d sound ws w belongs free σ))
+      ∙ ap (λ x. meant d.fixed_part x a) (sym (effect_meant d sound ws w belongs free σ))
 
   module _ (op a b : ℕ) (o : Operation) (h : IssueAllowed d.fixed_part w free op a b o) where
     abbrev used : List ℕ
     used = take (leaf_total o) (a ∷ b ∷ [])
 
-    issue-is-taken : taken d.fixed_part w (did_issue op used) ≡ true
-    issue-is-taken =
+    issue_is_taken : taken d.fixed_part w (did_issue op used) ≡ true
+    issue_is_taken =
         ap (issue_taken d.fixed_part w used) h.is
         ∙ and_from (bytes_eq (last_of (arity o) w) (operand_letters o)) _ ((bytes_eq-Decides _ _).1 h.operands_wait)
         (and_from (admits_all (operation_leaves o) used) _ (admits_spare (operation_leaves o) (a ∷ b ∷ []) ∙ h.admitted_both)
@@ -111,50 +111,50 @@ module _ (d : Design) (sound : Sound d) (ws w : List ℕ) (belongs : Belongs d w
     words_are : act_words d w (did_issue op used) ≡ issue_word d op o w ∷ used
     words_are = ap (issue_words d w op used) (ap operands_by h.is)
 
-    waits-are : waiting_after d.fixed_part w (did_issue op used) ≡ before_last (arity o) w ++ o.result_letter ∷ []
-    waits-are = ap (waiting_by w) h.is
+    waits_are : waiting_after d.fixed_part w (did_issue op used) ≡ before_last (arity o) w ++ o.result_letter ∷ []
+    waits_are = ap (waiting_by w) h.is
 
-    pub issue-belongs : Belongs d (ws ++ issue_word d op o w ∷ used) (before_last (arity o) w ++ o.result_letter ∷ [])
-    issue-belongs =
-        subst (λ w'. Belongs d (ws ++ issue_word d op o w ∷ used) w') waits-are
+    pub issue_belongs : Belongs d (ws ++ issue_word d op o w ∷ used) (before_last (arity o) w ++ o.result_letter ∷ [])
+    issue_belongs =
+        subst (λ w'. Belongs d (ws ++ issue_word d op o w ∷ used) w') waits_are
         (subst (λ us. Belongs d (ws ++ us) (waiting_after d.fixed_part w (did_issue op used))) words_are
-        (belongs-more d sound ws w belongs (did_issue op used) issue-is-taken))
+        (belongs_more d sound ws w belongs (did_issue op used) issue_is_taken))
 
-    issue-effect : (free' : ℕ) (σ : List ℕ) → (state_of d (ws ++ issue_word d op o w ∷ used) free' (before_last (arity o) w ++ o.result_letter ∷ [])).effect σ ≡ meant_by used ((state_of d ws free w).effect σ) (Some o)
-    issue-effect free' σ =
-        sym (λ i. (state_of d (ws ++ words_are i) free' (waits-are i)).effect σ)
-        ∙ effect-more (did_issue op used) issue-is-taken free' σ ∙ ap (meant_by used ((state_of d ws free w).effect σ)) h.is
+    issue_effect : (free' : ℕ) (σ : List ℕ) → (state_of d (ws ++ issue_word d op o w ∷ used) free' (before_last (arity o) w ++ o.result_letter ∷ [])).effect σ ≡ meant_by used ((state_of d ws free w).effect σ) (Some o)
+    issue_effect free' σ =
+        sym (λ i. (state_of d (ws ++ words_are i) free' (waits_are i)).effect σ)
+        ∙ effect_more (did_issue op used) issue_is_taken free' σ ∙ ap (meant_by used ((state_of d ws free w).effect σ)) h.is
 
     pub issued : (free' : ℕ) → free ≡ free' + (1 + leaf_total o) → Issued d.fixed_part (state_of d ws free w) op a b (state_of d (ws ++ issue_word d op o w ∷ used) free' (before_last (arity o) w ++ o.result_letter ∷ []))
     issued free' pays = record {
-      granted = issue-granted d.fixed_part w free op a b o h;
+      granted = issue_granted d.fixed_part w free op a b o h;
       by = o;
       is = h.is;
       waits = refl;
       paid = pays;
-      gained = sym (ap (λ us. decoded d (ws ++ us)) words_are) ∙ decoded-more d sound ws w belongs (did_issue op used) issue-is-taken;
-      ends_same = λ σ l. ap (λ x. x.ends) (issue-effect free' σ);
-      joins = λ σ l. ap (λ x. x.held_values) (issue-effect free' σ)
+      gained = sym (ap (λ us. decoded d (ws ++ us)) words_are) ∙ decoded_more d sound ws w belongs (did_issue op used) issue_is_taken;
+      ends_same = λ σ l. ap (λ x. x.ends) (issue_effect free' σ);
+      joins = λ σ l. ap (λ x. x.held_values) (issue_effect free' σ)
           ∙ ap (λ v. before_last (arity o) ((state_of d ws free w).effect σ).held_values ++ v ∷ [])
           (value_spare o.shape (last_of (arity o) ((state_of d ws free w).effect σ).held_values) (a ∷ b ∷ []) ((state_of d ws free w).effect σ).ends);
     }
 
   module _ (v : ℕ) (h : StoreAllowed d.fixed_part w free v) where
-    store-is-taken : taken d.fixed_part w (did_store v) ≡ true
-    store-is-taken =
+    store_is_taken : taken d.fixed_part w (did_store v) ≡ true
+    store_is_taken =
         and_from (bytes_eq (last_of 1 w) (d.fixed_part.store_letter ∷ [])) _ ((bytes_eq-Decides _ _).1 h.operand_waits) (le-leb v 63 h.within)
 
-    pub store-belongs : Belongs d (ws ++ store_word d w ∷ v ∷ []) (before_last 1 w)
-    store-belongs = belongs-more d sound ws w belongs (did_store v) store-is-taken
+    pub store_belongs : Belongs d (ws ++ store_word d w ∷ v ∷ []) (before_last 1 w)
+    store_belongs = belongs_more d sound ws w belongs (did_store v) store_is_taken
 
     pub stored : (free' : ℕ) → free ≡ free' + 2 → Stored d.fixed_part (state_of d ws free w) v (state_of d (ws ++ store_word d w ∷ v ∷ []) free' (before_last 1 w))
     stored free' pays = record {
-      granted = store-granted d.fixed_part w free v h;
+      granted = store_granted d.fixed_part w free v h;
       waits = refl;
       paid = pays;
-      gained = decoded-more d sound ws w belongs (did_store v) store-is-taken;
-      ends_set = λ σ l. ap (λ x. x.ends) (effect-more (did_store v) store-is-taken free' σ);
-      leaves = λ σ l. ap (λ x. x.held_values) (effect-more (did_store v) store-is-taken free' σ);
+      gained = decoded_more d sound ws w belongs (did_store v) store_is_taken;
+      ends_set = λ σ l. ap (λ x. x.ends) (effect_more (did_store v) store_is_taken free' σ);
+      leaves = λ σ l. ap (λ x. x.held_values) (effect_more (did_store v) store_is_taken free' σ);
     }
 
 -- a board with no code
@@ -163,14 +163,14 @@ belongs_empty d = (refl, refl, refl)
 
 module _ (d : Design) (sound : Sound d) (ws w : List ℕ) (belongs : Belongs d ws w) where
   -- a simulation of the words is refused only for a wrong count of variables
-  pub run-refused : (σ : List ℕ) (k p : ℕ) → SimulationDenied d ws σ k p → RunFails σ 34 p
-  run-refused σ k p (of_count _ e h) = wrong_count refl e h
-  run-refused σ k p (at_instruction _ e) =
-      let clash : left (words-run d sound ws w belongs σ).at_end ≡ refused_at k p = sym (words-run d sound ws w belongs σ).through ∙ e in
+  pub run_refused : (σ : List ℕ) (k p : ℕ) → SimulationDenied d ws σ k p → RunFails σ 34 p
+  run_refused σ k p (of_count _ e h) = wrong_count refl e h
+  run_refused σ k p (at_instruction _ e) =
+      let clash : left (words_run d sound ws w belongs σ).at_end ≡ refused_at k p = sym (words_run d sound ws w belongs σ).through ∙ e in
       let z : ◌≡◌ {A = ℕ} 0 1 = cc in absurd (omega arith)
 
   -- it goes through with 64 variables, and leaves the end setting
-  pub words-simulated : (free : ℕ) (σ : List ℕ) → length σ ≡ 64 → Simulated d ws σ (end_from (state_of d ws free w) σ)
-  words-simulated free σ h =
-      let r = words-run d sound ws w belongs σ in
+  pub words_simulated : (free : ℕ) (σ : List ℕ) → length σ ≡ 64 → Simulated d ws σ (end_from (state_of d ws free w) σ)
+  words_simulated free σ h =
+      let r = words_run d sound ws w belongs σ in
       record { counted = h; at_end = r.at_end; goes_through = r.through; leaves = ap (λ x. (outcome_by d w x).ends) r.through }

@@ -55,28 +55,28 @@ module _ (d : Design) where
     pub follows : has_payload d f ≡ ltb 0 (length ps)
     pub one : length ps ≤ 1
 
-  pub decoded-line : (f : ℕ) (ps ws : List ℕ) → Line f ps → decoded d (f ∷ (ps ++ ws)) ≡ act_of (f / 256) ps ∷ decoded d ws
-  decoded-line f [] [] l = refl
-  decoded-line f [] (x ∷ ws) l = cond-false _ _ _ l.follows
-  decoded-line f (p ∷ []) ws l = cond-true _ _ _ l.follows
-  decoded-line f (p ∷ q ∷ ps) ws l = absurd (omega (arith, l.one))
+  pub decoded_line : (f : ℕ) (ps ws : List ℕ) → Line f ps → decoded d (f ∷ (ps ++ ws)) ≡ act_of (f / 256) ps ∷ decoded d ws
+  decoded_line f [] [] l = refl
+  decoded_line f [] (x ∷ ws) l = cond-false _ _ _ l.follows
+  decoded_line f (p ∷ []) ws l = cond-true _ _ _ l.follows
+  decoded_line f (p ∷ q ∷ ps) ws l = absurd (omega (arith, l.one))
 
-  pub simulated-line : (f : ℕ) (ps ws : List ℕ) (n : ℕ) (s : Running) → Line f ps → simulated d n (f ∷ (ps ++ ws)) s ≡ go_on (step_of d f ps s) n (simulated d (n + (1 + length ps)) ws)
-  simulated-line f [] [] n s l = refl
-  simulated-line f [] (x ∷ ws) n s l = cond-false _ _ _ l.follows
-  simulated-line f (p ∷ []) ws n s l = cond-true _ _ _ l.follows
-  simulated-line f (p ∷ q ∷ ps) ws n s l = absurd (omega (arith, l.one))
+  pub simulated_line : (f : ℕ) (ps ws : List ℕ) (n : ℕ) (s : Running) → Line f ps → simulated d n (f ∷ (ps ++ ws)) s ≡ go_on (step_of d f ps s) n (simulated d (n + (1 + length ps)) ws)
+  simulated_line f [] [] n s l = refl
+  simulated_line f [] (x ∷ ws) n s l = cond-false _ _ _ l.follows
+  simulated_line f (p ∷ []) ws n s l = cond-true _ _ _ l.follows
+  simulated_line f (p ∷ q ∷ ps) ws n s l = absurd (omega (arith, l.one))
 
   module _ (sound : Sound d) where
-    pub first-opcode : (n i k : ℕ) → first_word d n i k / 256 ≡ n
-    first-opcode n i k = omega (arith, sound.low_is_byte i k)
+    pub first_opcode : (n i k : ℕ) → first_word d n i k / 256 ≡ n
+    first_opcode n i k = omega (arith, sound.low_is_byte i k)
 
     pub entry_known : (n : ℕ) (o : Operation) → operation_of d.fixed_part n ≡ Some o → entry_of d n ≡ Some (operation_entry o)
     entry_known n o e =
-        cond-false (eqb n store_opcode) _ _ (ne_eqb n store_opcode not-store) ∙ ap entry_by e
+        cond-false (eqb n store_opcode) _ _ (ne_eqb n store_opcode not_store) ∙ ap entry_by e
       where
-        not-store : n ≡ store_opcode → ⊥
-        not-store q =
+        not_store : n ≡ store_opcode → ⊥
+        not_store q =
             let clash : None ≡ Some o = sym sound.store_apart ∙ ap (operation_of d.fixed_part) (sym q) ∙ e in
             let z : ◌≡◌ {A = ℕ} 0 1 = cc in omega arith
 
@@ -88,11 +88,11 @@ module _ (d : Design) where
       pub line : Line first payloads
       pub back : act_of (first / 256) payloads ≡ a
 
-    unfoldable pub act-line : (w : List ℕ) (a : Act) → taken d.fixed_part w a ≡ true → ActLine w a
-    act-line w (did_issue op ps) t =
+    unfoldable pub act_line : (w : List ℕ) (a : Act) → taken d.fixed_part w a ≡ true → ActLine w a
+    act_line w (did_issue op ps) t =
         let i = issue_read d.fixed_part w op ps t in
         let n = operands_by (operation_of d.fixed_part op) in
-        let is-op = first-opcode op (length w - n) n in
+        let is-op = first_opcode op (length w - n) n in
         let known = entry_known op i.by i.is in
         record {
           first = first_word d op (length w - n) n;
@@ -102,19 +102,19 @@ module _ (d : Design) where
             follows = ap takes_payload (ap (entry_of d) is-op ∙ known) ∙ ap (ltb 0) (sym i.counted);
             one = omega (arith, i.counted, sound.one_payload op i.by i.is);
           };
-          back = ap (λ k. act_of k ps) is-op ∙ issue-back op ps i.by known;
+          back = ap (λ k. act_of k ps) is-op ∙ issue_back op ps i.by known;
         }
       where
-        issue-back : (op : ℕ) (ps : List ℕ) (o : Operation) → entry_of d op ≡ Some (operation_entry o) → act_of op ps ≡ did_issue op ps
-        issue-back op ps o e = go (eqb op store_opcode) refl
+        issue_back : (op : ℕ) (ps : List ℕ) (o : Operation) → entry_of d op ≡ Some (operation_entry o) → act_of op ps ≡ did_issue op ps
+        issue_back op ps o e = go (eqb op store_opcode) refl
           where
             go : (b : Bool) → eqb op store_opcode ≡ b → act_of op ps ≡ did_issue op ps
             go true h =
                 let clash : Some store_entry ≡ Some (operation_entry o) = sym (cond-true _ _ _ h) ∙ e in
                 let z : ◌≡◌ {A = ℕ} 0 1 = cc in absurd (omega arith)
             go false h = cond-false _ _ _ h
-    act-line w (did_store v) t =
-        let is-op = first-opcode store_opcode (length w - 1) 1 in
+    act_line w (did_store v) t =
+        let is-op = first_opcode store_opcode (length w - 1) 1 in
         record {
           first = first_word d store_opcode (length w - 1) 1;
           payloads = v ∷ [];
@@ -128,30 +128,30 @@ module _ (d : Design) where
     decoded-encoded w [] t = refl
     decoded-encoded w (a ∷ rest) t =
         let both = and_parts (taken d.fixed_part w a) _ t in
-        let l = act-line w a both.0 in
+        let l = act_line w a both.0 in
         let w' = waiting_after d.fixed_part w a in
         ap (λ ws. decoded d (ws ++ encoded d w' rest)) l.words_are
-        ∙ decoded-line l.first l.payloads (encoded d w' rest) l.line
+        ∙ decoded_line l.first l.payloads (encoded d w' rest) l.line
         ∙ (λ i. l.back i ∷ decoded-encoded w' rest both.1 i)
 
   -- one act more
-  pub encoded-push : (w : List ℕ) (as' : List Act) (a : Act) → encoded d w (as' ++ a ∷ []) ≡ encoded d w as' ++ act_words d (waiting_after_all d.fixed_part w as') a
-  encoded-push w [] a = append-nil' (act_words d w a)
+  pub encoded_push : (w : List ℕ) (as' : List Act) (a : Act) → encoded d w (as' ++ a ∷ []) ≡ encoded d w as' ++ act_words d (waiting_after_all d.fixed_part w as') a
+  encoded_push w [] a = append_nil' (act_words d w a)
     where
-      append-nil' : (xs : List ℕ) → xs ++ [] ≡ xs
-      append-nil' [] = refl
-      append-nil' (x ∷ xs) = ap (λ l. x ∷ l) (append-nil' xs)
-  encoded-push w (b ∷ rest) a =
-      ap (λ ws. act_words d w b ++ ws) (encoded-push (waiting_after d.fixed_part w b) rest a)
+      append_nil' : (xs : List ℕ) → xs ++ [] ≡ xs
+      append_nil' [] = refl
+      append_nil' (x ∷ xs) = ap (λ l. x ∷ l) (append_nil' xs)
+  encoded_push w (b ∷ rest) a =
+      ap (λ ws. act_words d w b ++ ws) (encoded_push (waiting_after d.fixed_part w b) rest a)
       ∙ sym (append_assoc (act_words d w b) _ _)
 
 module _ (m : Machine) where
-  pub taken-push : (w : List ℕ) (as' : List Act) (a : Act) → all_taken m w as' ≡ true → taken m (waiting_after_all m w as') a ≡ true → all_taken m w (as' ++ a ∷ []) ≡ true
-  taken-push w [] a t h = and_from (taken m w a) true h refl
-  taken-push w (b ∷ rest) a t h =
+  pub taken_push : (w : List ℕ) (as' : List Act) (a : Act) → all_taken m w as' ≡ true → taken m (waiting_after_all m w as') a ≡ true → all_taken m w (as' ++ a ∷ []) ≡ true
+  taken_push w [] a t h = and_from (taken m w a) true h refl
+  taken_push w (b ∷ rest) a t h =
       let both = and_parts (taken m w b) _ t in
-      and_from (taken m w b) _ both.0 (taken-push (waiting_after m w b) rest a both.1 h)
+      and_from (taken m w b) _ both.0 (taken_push (waiting_after m w b) rest a both.1 h)
 
-  pub waiting-push : (w : List ℕ) (as' : List Act) (a : Act) → waiting_after_all m w (as' ++ a ∷ []) ≡ waiting_after m (waiting_after_all m w as') a
-  waiting-push w [] a = refl
-  waiting-push w (b ∷ rest) a = waiting-push (waiting_after m w b) rest a
+  pub waiting_push : (w : List ℕ) (as' : List Act) (a : Act) → waiting_after_all m w (as' ++ a ∷ []) ≡ waiting_after m (waiting_after_all m w as') a
+  waiting_push w [] a = refl
+  waiting_push w (b ∷ rest) a = waiting_push (waiting_after m w b) rest a

@@ -13,22 +13,22 @@ use Rattle.processor.specs.Codes.{taken, waiting_by, waiting_after, all_taken, w
 use Rattle.processor.specs.Soundness.{Sound, OperationRuns, StoreRuns, issue_word, store_word}
 use Rattle.processor.specs.Boards.{outcome_by}
 use Rattle.processor.specs.Meanings.{meant_by, meant, meant_all, untouched, GoesThrough, EncodedRuns}
-use Rattle.processor.proofs.Lines.{IssueTaken, issue_read, StoreTaken, store_read, first-opcode, entry_known, ActLine, act-line, simulated-line}
+use Rattle.processor.proofs.Lines.{IssueTaken, issue_read, StoreTaken, store_read, first_opcode, entry_known, ActLine, act_line, simulated_line}
 
 module _ (d : Design) (sound : Sound d) where
   -- one act runs from a processor that holds the operands in the PLACES w
   pub record ActRuns (w : List ℕ) (a : Act) (s : Running) (f : ℕ) (ps : List ℕ) : Type 0 where
     pub after : Running
     pub steps : step_of d f ps s ≡ goes after
-    pub still-held : d.holds (waiting_after d.fixed_part w a) after.own_now ≡ true
+    pub still_held : d.holds (waiting_after d.fixed_part w a) after.own_now ≡ true
     pub means : outcome_by d (waiting_after d.fixed_part w a) (left after) ≡ meant d.fixed_part (outcome_by d w (left s)) a
 
-  issue-runs : (w : List ℕ) (op : ℕ) (ps : List ℕ) (s : Running) (i : IssueTaken d.fixed_part w op ps) → OperationRuns d op i.by w s.own_now → ActRuns w (did_issue op ps) s (issue_word d op i.by w) ps
-  issue-runs w op ps s i r =
+  issue_runs : (w : List ℕ) (op : ℕ) (ps : List ℕ) (s : Running) (i : IssueTaken d.fixed_part w op ps) → OperationRuns d op i.by w s.own_now → ActRuns w (did_issue op ps) s (issue_word d op i.by w) ps
+  issue_runs w op ps s i r =
       let o = i.by in
       let f = issue_word d op o w in
       let n = length w - arity o in
-      let known = ap (entry_of d) (first-opcode d sound op n (arity o)) ∙ entry_known d sound op o i.is in
+      let known = ap (entry_of d) (first_opcode d sound op n (arity o)) ∙ entry_known d sound op o i.is in
       let after = carried_out d f ps s (operation_entry o) in
       let v = shape_value o.shape (d.operands_at f (operand_letters o) s.own_now) ps s.setting_now in
       let waits = ap (waiting_by w) i.is in
@@ -37,63 +37,63 @@ module _ (d : Design) (sound : Sound d) where
       record {
         after = after;
         steps = ap (step_by d f ps s) known ∙ cond-false _ _ _ r.placed ∙ cond-true _ _ _ i.admitted_all;
-        still-held = ap (λ w'. d.holds w' after.own_now) waits ∙ r.result_held v;
+        still_held = ap (λ w'. d.holds w' after.own_now) waits ∙ r.result_held v;
         means = ap (λ w'. outcome_by d w' (left after)) waits
             ∙ ap (λ vs. record { ends = s.setting_now; held_values = vs }) read
             ∙ sym (ap (meant_by ps (outcome_by d w (left s))) i.is);
       }
 
-  store-runs : (w : List ℕ) (v : ℕ) (s : Running) → StoreTaken d.fixed_part w v → StoreRuns d w s.own_now → ActRuns w (did_store v) s (store_word d w) (v ∷ [])
-  store-runs w v s t r =
+  store_runs : (w : List ℕ) (v : ℕ) (s : Running) → StoreTaken d.fixed_part w v → StoreRuns d w s.own_now → ActRuns w (did_store v) s (store_word d w) (v ∷ [])
+  store_runs w v s t r =
       let f = store_word d w in
-      let known = ap (entry_of d) (first-opcode d sound store_opcode (length w - 1) 1) in
+      let known = ap (entry_of d) (first_opcode d sound store_opcode (length w - 1) 1) in
       let after = carried_out d f (v ∷ []) s store_entry in
       let stored = ap (λ vs. get_or vs 0 0) r.operand_found in
       record {
         after = after;
         steps = ap (step_by d f (v ∷ []) s) known ∙ cond-false _ _ _ r.placed ∙ cond-true _ _ _ (and_from _ true t.within refl);
-        still-held = r.rest_held;
+        still_held = r.rest_held;
         means = λ i. record { ends = set s.setting_now v (stored i); held_values = r.rest_read i };
       }
 
-  act-runs : (w : List ℕ) (a : Act) (s : Running) (t : taken d.fixed_part w a ≡ true) → d.holds w s.own_now ≡ true → ActRuns w a s (act-line d sound w a t).first (act-line d sound w a t).payloads
-  unfolding act-line
-  act-runs w (did_issue op ps) s t h =
+  act_runs : (w : List ℕ) (a : Act) (s : Running) (t : taken d.fixed_part w a ≡ true) → d.holds w s.own_now ≡ true → ActRuns w a s (act_line d sound w a t).first (act_line d sound w a t).payloads
+  unfolding act_line
+  act_runs w (did_issue op ps) s t h =
       let i = issue_read d.fixed_part w op ps t in
       let o = i.by in
       subst (λ n. ActRuns w (did_issue op ps) s (first_word d op (length w - n) n) ps) (sym (ap operands_by i.is))
-      (issue-runs w op ps s i (sound.operations_run op o w s.own_now i.is i.operands_wait i.shallow h))
-  act-runs w (did_store v) s t h =
+      (issue_runs w op ps s i (sound.operations_run op o w s.own_now i.is i.operands_wait i.shallow h))
+  act_runs w (did_store v) s t h =
       let i = store_read d.fixed_part w v t in
-      store-runs w v s i (sound.stores_run w s.own_now i.operand_waits h)
+      store_runs w v s i (sound.stores_run w s.own_now i.operand_waits h)
 
   pub record CodeRuns (w : List ℕ) (code : List Act) (n : ℕ) (s : Running) : Type 0 where
     pub at_end : Running
     pub through : simulated d n (encoded d w code) s ≡ left at_end
-    pub still-held : d.holds (waiting_after_all d.fixed_part w code) at_end.own_now ≡ true
+    pub still_held : d.holds (waiting_after_all d.fixed_part w code) at_end.own_now ≡ true
     pub means : outcome_by d (waiting_after_all d.fixed_part w code) (left at_end) ≡ meant_all d.fixed_part (outcome_by d w (left s)) code
 
   pub code_runs : (w : List ℕ) (code : List Act) (n : ℕ) (s : Running) → all_taken d.fixed_part w code ≡ true → d.holds w s.own_now ≡ true → CodeRuns w code n s
-  code_runs w [] n s t h = record { at_end = s; through = refl; still-held = h; means = refl }
+  code_runs w [] n s t h = record { at_end = s; through = refl; still_held = h; means = refl }
   code_runs w (a ∷ rest) n s t h =
       let both = and_parts (taken d.fixed_part w a) _ t in
-      let l = act-line d sound w a both.0 in
-      let r = act-runs w a s both.0 h in
+      let l = act_line d sound w a both.0 in
+      let r = act_runs w a s both.0 h in
       let w' = waiting_after d.fixed_part w a in
-      let more = code_runs w' rest (n + (1 + length l.payloads)) r.after both.1 r.still-held in
+      let more = code_runs w' rest (n + (1 + length l.payloads)) r.after both.1 r.still_held in
       record {
         at_end = more.at_end;
         through = ap (λ ws. simulated d n (ws ++ encoded d w' rest) s) l.words_are
-            ∙ simulated-line d l.first l.payloads (encoded d w' rest) n s l.line
+            ∙ simulated_line d l.first l.payloads (encoded d w' rest) n s l.line
             ∙ ap (λ x. go_on x n (simulated d (n + (1 + length l.payloads)) (encoded d w' rest))) r.steps
             ∙ more.through;
-        still-held = more.still-held;
+        still_held = more.still_held;
         means = more.means ∙ ap (λ x. meant_all d.fixed_part x rest) r.means;
       }
 
   -- nothing waits at the start
-  pub starts-empty : (σ : List ℕ) → outcome_by d [] (left (from_start d σ)) ≡ untouched σ
-  starts-empty σ =
+  pub starts_empty : (σ : List ℕ) → outcome_by d [] (left (from_start d σ)) ≡ untouched σ
+  starts_empty σ =
       ap (λ vs. record { ends = σ; held_values = vs }) (nil_from_length (d.values_at [] d.at_start) (sound.value_each [] d.at_start sound.starts))
 
 pub encoded_runs_lem : EncodedRuns
@@ -102,5 +102,5 @@ encoded_runs_lem d sound code t σ =
     record {
       at_end = r.at_end;
       through = r.through;
-      outcome_is = r.means ∙ ap (λ x. meant_all d.fixed_part x code) (starts-empty d sound σ);
+      outcome_is = r.means ∙ ap (λ x. meant_all d.fixed_part x code) (starts_empty d sound σ);
     }

@@ -50,17 +50,17 @@ listed_found (q ∷ os) o once (in_tail _ _ a) =
 
 -- a table made from numbered lines
 module _ {O : Type 0} (f : O → Operation) (n : ℕ) where
-  pub line-missing : (os : List O) → first_numbered (λ o. (f o).opcode_number) os n ≡ None → operation_among (map f os) n ≡ None
-  line-missing [] e = refl
-  line-missing (o ∷ os) e = go (line-missing os) (eqb n (f o).opcode_number) refl
+  pub line_missing : (os : List O) → first_numbered (λ o. (f o).opcode_number) os n ≡ None → operation_among (map f os) n ≡ None
+  line_missing [] e = refl
+  line_missing (o ∷ os) e = go (line_missing os) (eqb n (f o).opcode_number) refl
     where
       go : (first_numbered (λ o. (f o).opcode_number) os n ≡ None → operation_among (map f os) n ≡ None) → (b : Bool) → eqb n (f o).opcode_number ≡ b → operation_among (map f (o ∷ os)) n ≡ None
       go later true h = let s : Some o ≡ None = sym (cond-true _ _ _ h) ∙ e in let z : ◌≡◌ {A = ℕ} 0 1 = cc in absurd (omega arith)
       go later false h = cond-false _ _ _ h ∙ later (sym (cond-false _ _ _ h) ∙ e)
 
-  pub line-found : (os : List O) (o : O) → first_numbered (λ q. (f q).opcode_number) os n ≡ Some o → operation_among (map f os) n ≡ Some (f o)
-  line-found [] o e = let z : ◌≡◌ {A = ℕ} 0 1 = cc in absurd (omega arith)
-  line-found (q ∷ os) o e = go (line-found os o) (eqb n (f q).opcode_number) refl
+  pub line_found : (os : List O) (o : O) → first_numbered (λ q. (f q).opcode_number) os n ≡ Some o → operation_among (map f os) n ≡ Some (f o)
+  line_found [] o e = let z : ◌≡◌ {A = ℕ} 0 1 = cc in absurd (omega arith)
+  line_found (q ∷ os) o e = go (line_found os o) (eqb n (f q).opcode_number) refl
     where
       go : (first_numbered (λ q. (f q).opcode_number) os n ≡ Some o → operation_among (map f os) n ≡ Some (f o)) → (b : Bool) → eqb n (f q).opcode_number ≡ b → operation_among (map f (q ∷ os)) n ≡ Some (f o)
       go later true h = let s : Some q ≡ Some o = sym (cond-true _ _ _ h) ∙ e in let same : q ≡ o = cc in cond-true _ _ _ h ∙ ap (λ x. Some (f x)) same
@@ -76,8 +76,8 @@ pub every_all : (t : Operation → Bool) (os : List Operation) → every t os �
 every_all t [] e = tt
 every_all t (o ∷ os) e = let both = and_parts (t o) _ e in (both.0, every_all t os both.1)
 
-pub every-found : (t : Operation → Bool) (os : List Operation) → every t os ≡ true → (n : ℕ) (o : Operation) → operation_among os n ≡ Some o → t o ≡ true
-every-found t os e n o found = among_all _ os o (every_all t os e) (found_among os n o found).0
+pub every_found : (t : Operation → Bool) (os : List Operation) → every t os ≡ true → (n : ℕ) (o : Operation) → operation_among os n ≡ Some o → t o ≡ true
+every_found t os e n o found = among_all _ os o (every_all t os e) (found_among os n o found).0
 
 -- no two share f, where `same` finds them different
 module _ {X : Type 0} (same : X → X → Bool) (differ : (x y : X) → same x y ≡ false → x ≡ y → ⊥) (f : Operation → X) where
@@ -85,25 +85,25 @@ module _ {X : Type 0} (same : X → X → Bool) (differ : (x y : X) → same x y
   alone o [] = true
   alone o (q ∷ os) = not (same (f q) (f o)) && alone o os
 
-  abbrev pub all-alone : List Operation → Bool
-  all-alone [] = true
-  all-alone (o ∷ os) = alone o os && all-alone os
+  abbrev pub all_alone : List Operation → Bool
+  all_alone [] = true
+  all_alone (o ∷ os) = alone o os && all_alone os
 
-  alone-from : (o : Operation) (os : List Operation) → alone o os ≡ true → All (λ q. f q ≡ f o → ⊥) os
-  alone-from o [] e = tt
-  alone-from o (q ∷ os) e =
+  alone_from : (o : Operation) (os : List Operation) → alone o os ≡ true → All (λ q. f q ≡ f o → ⊥) os
+  alone_from o [] e = tt
+  alone_from o (q ∷ os) e =
       let both = and_parts (not (same (f q) (f o))) _ e in
-      (differ (f q) (f o) (not-true _ both.0), alone-from o os both.1)
+      (differ (f q) (f o) (not-true _ both.0), alone_from o os both.1)
 
-  pub no-two-share : (os : List Operation) → all-alone os ≡ true → NoTwoShare f os
-  no-two-share [] e = tt
-  no-two-share (o ∷ os) e = let both = and_parts (alone o os) _ e in (alone-from o os both.0, no-two-share os both.1)
+  pub no_two_share : (os : List Operation) → all_alone os ≡ true → NoTwoShare f os
+  no_two_share [] e = tt
+  no_two_share (o ∷ os) e = let both = and_parts (alone o os) _ e in (alone_from o os both.0, no_two_share os both.1)
 
-pub once_by_number : (os : List Operation) → all-alone eqb eqb-false (λ o. o.opcode_number) os ≡ true → NoTwoShare (λ o. o.opcode_number) os
-once_by_number = no-two-share eqb eqb-false (λ o. o.opcode_number)
+pub once_by_number : (os : List Operation) → all_alone eqb eqb-false (λ o. o.opcode_number) os ≡ true → NoTwoShare (λ o. o.opcode_number) os
+once_by_number = no_two_share eqb eqb-false (λ o. o.opcode_number)
 
 pub texts_differ : (x y : List ℕ) → bytes_eq x y ≡ false → x ≡ y → ⊥
 texts_differ x y e h = both_ways _ e ((bytes_eq-Decides x y).1 h)
 
-pub once_by_text : (os : List Operation) → all-alone bytes_eq texts_differ (λ o. o.letters) os ≡ true → NoTwoShare (λ o. o.letters) os
-once_by_text = no-two-share bytes_eq texts_differ (λ o. o.letters)
+pub once_by_text : (os : List Operation) → all_alone bytes_eq texts_differ (λ o. o.letters) os ≡ true → NoTwoShare (λ o. o.letters) os
+once_by_text = no_two_share bytes_eq texts_differ (λ o. o.letters)

@@ -9,17 +9,17 @@ module _ (mem : List ℕ) (len w : ℕ) where
   pub wrote_one : len < length mem → take (len + 1) (set mem len w) ≡ take len mem ++ w ∷ []
   wrote_one h = take_more_set mem len w h
 
-  pub rest-one : drop (len + 1) (set mem len w) ≡ drop 1 (drop len mem)
-  rest-one = drop-set-lt (len + 1) mem len w (omega arith) ∙ sym (drop-drop 1 len mem)
+  pub rest_one : drop (len + 1) (set mem len w) ≡ drop 1 (drop len mem)
+  rest_one = drop-set-lt (len + 1) mem len w (omega arith) ∙ sym (drop-drop 1 len mem)
 
   module _ (p : ℕ) where
-    pub wrote-two : len + 1 < length mem → take (len + 2) (set (set mem len w) (len + 1) p) ≡ take len mem ++ w ∷ p ∷ []
-    wrote-two h =
+    pub wrote_two : len + 1 < length mem → take (len + 2) (set (set mem len w) (len + 1) p) ≡ take len mem ++ w ∷ p ∷ []
+    wrote_two h =
         let two : len + 2 ≡ len + 1 + 1 = omega arith in
         ap (λ k. take k (set (set mem len w) (len + 1) p)) two
         ∙ take_more_set (set mem len w) (len + 1) p (omega (arith, length-set mem len w))
         ∙ ap (λ ws. ws ++ p ∷ []) (wrote_one (omega arith)) ∙ append_assoc (take len mem) (w ∷ []) (p ∷ [])
 
-    pub rest-two : drop (len + 2) (set (set mem len w) (len + 1) p) ≡ drop 2 (drop len mem)
-    rest-two =
+    pub rest_two : drop (len + 2) (set (set mem len w) (len + 1) p) ≡ drop 2 (drop len mem)
+    rest_two =
         drop-set-lt (len + 2) (set mem len w) (len + 1) p (omega arith) ∙ drop-set-lt (len + 2) mem len w (omega arith) ∙ sym (drop-drop 2 len mem)

@@ -16,15 +16,15 @@ use Rattle.reader.specs.Words.{declared_from}
 use Rattle.reader.specs.Reading.{declaration_end, name_place, name_declared}
 use Rattle.reader.specs.States.{declarations_of, productions_of, stands}
 
-pub names-count : (g : Progress) → length (declarations_of g) ≡ g.description.name_count
-names-count g = length-map (names_of g.description) declaration_of ∙ count_of_names g.description
+pub names_count : (g : Progress) → length (declarations_of g) ≡ g.description.name_count
+names_count g = length-map (names_of g.description) declaration_of ∙ count_of_names g.description
 
-pub rules-count : (g : Progress) → length (productions_of g) ≡ g.description.rule_count
-rules-count g = length-map (rules_of g.description) production_of ∙ count_of_rules g.description
+pub rules_count : (g : Progress) → length (productions_of g) ≡ g.description.rule_count
+rules_count g = length-map (rules_of g.description) production_of ∙ count_of_rules g.description
 
-pub declared-is : (k : ℕ) (t : List ℕ) (ns : List Nonterminal) → declared_from k t (map declaration_of ns) ≡ number_from k t ns
-declared-is k t [] = refl
-declared-is k t (n ∷ ns) = ap (cond (same_text (text_of n) t) (Some k)) (declared-is (suc k) t ns)
+pub declared_is : (k : ℕ) (t : List ℕ) (ns : List Nonterminal) → declared_from k t (map declaration_of ns) ≡ number_from k t ns
+declared_is k t [] = refl
+declared_is k t (n ∷ ns) = ap (cond (same_text (text_of n) t) (Some k)) (declared_is (suc k) t ns)
 
 none_some : (i : ℕ) → None ≡ Some i → ⊥
 none_some i e = let z : ◌≡◌ {A = ℕ} 0 1 = cc in omega arith
@@ -41,19 +41,19 @@ number_below k t (n ∷ ns) i e =
 
 -- the name of text t has the number i
 module _ (g : Progress) (t letters : List ℕ) (same : letters ≡ t) where
-  pub found-is : (o : Option ℕ) → o ≡ number_from 0 letters (names_of g.description) → o ≡ declared_from 0 t (declarations_of g)
-  found-is o e = sym (declared-is 0 t (names_of g.description) ∙ ap (λ u. number_from 0 u (names_of g.description)) (sym same) ∙ sym e)
+  pub found_is : (o : Option ℕ) → o ≡ number_from 0 letters (names_of g.description) → o ≡ declared_from 0 t (declarations_of g)
+  found_is o e = sym (declared_is 0 t (names_of g.description) ∙ ap (λ u. number_from 0 u (names_of g.description)) (sym same) ∙ sym e)
 
   pub found_below : (i : ℕ) → Some i ≡ number_from 0 letters (names_of g.description) → i < length (declarations_of g)
   found_below i e =
       omega (arith, number_below 0 letters (names_of g.description) i (sym e), length-map (names_of g.description) declaration_of)
 
-  pub found-small : (i : ℕ) → Some i ≡ number_from 0 letters (names_of g.description) → i < 16
-  found-small i e = omega (arith, found_below i e, names-count g, g.description.few_names)
+  pub found_small : (i : ℕ) → Some i ≡ number_from 0 letters (names_of g.description) → i < 16
+  found_small i e = omega (arith, found_below i e, names_count g, g.description.few_names)
 
 -- a description with one name more
-pub name-gained : (g : Progress) (n : Nonterminal) (after : Description) (t : List ℕ) → NameAdded g.description n after → stands (record { description = after; line_start = g.line_start }) declaration_end ≡ name_declared (stands g (name_place t)) (letters_of n.name) n.place.letter
-name-gained g n after t h =
+pub name_gained : (g : Progress) (n : Nonterminal) (after : Description) (t : List ℕ) → NameAdded g.description n after → stands (record { description = after; line_start = g.line_start }) declaration_end ≡ name_declared (stands g (name_place t)) (letters_of n.name) n.place.letter
+name_gained g n after t h =
     let names = ap (map declaration_of) h.names_gained ∙ map_push declaration_of (names_of g.description) n in
     let rules = ap (map production_of) h.rules_kept in
     λ i. record {
@@ -63,7 +63,7 @@ name-gained g n after t h =
     }
 
 -- a name that is not there and for which there is room is not refused
-pub name-fits : (g : Progress) (n : Nonterminal) (e : NameRefusal) → length (declarations_of g) < 16 → declared_from 0 (letters_of n.name) (declarations_of g) ≡ None → NameDenied (names_of g.description) n e → ⊥
-name-fits g n TooManyNames room none denied = omega (arith, denied, length-map (names_of g.description) declaration_of)
-name-fits g n Declared room none denied =
-    both_ways _ (ap is_some (sym (declared-is 0 (letters_of n.name) (names_of g.description)) ∙ none)) denied.1
+pub name_fits : (g : Progress) (n : Nonterminal) (e : NameRefusal) → length (declarations_of g) < 16 → declared_from 0 (letters_of n.name) (declarations_of g) ≡ None → NameDenied (names_of g.description) n e → ⊥
+name_fits g n TooManyNames room none denied = omega (arith, denied, length-map (names_of g.description) declaration_of)
+name_fits g n Declared room none denied =
+    both_ways _ (ap is_some (sym (declared_is 0 (letters_of n.name) (names_of g.description)) ∙ none)) denied.1

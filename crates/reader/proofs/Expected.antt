@@ -6,14 +6,14 @@ use Rattle.description.specs.Outlines.{Outline}
 use Rattle.reader.specs.Words.{kind_number, is, value_in}
 use Rattle.reader.specs.Reading.{State, Outcome, goes, fails, number_upto, step}
 use Rattle.reader.specs.Grammar.{Word}
-use Rattle.reader.proofs.TokenKinds.{rebuilt, kind-is, Fine, tested, fine_goes, number_read, Proper}
+use Rattle.reader.proofs.TokenKinds.{rebuilt, kind_is, Fine, tested, fine_goes, number_read, Proper}
 use Rattle.reader.proofs.Walks.{Leads}
 
 pub same_state : (a b : State) → goes a ≡ goes b → a ≡ b
 same_state a b e = cc
 
-pub word-is : (w : Word) (k : Token) (t : List ℕ) → w.kind ≡ k → w.spelling ≡ t → w ≡ record { kind = k; spelling = t }
-word-is w k t e f = λ i. record { kind = e i; spelling = f i }
+pub word_is : (w : Word) (k : Token) (t : List ℕ) → w.kind ≡ k → w.spelling ≡ t → w ≡ record { kind = k; spelling = t }
+word_is w k t e f = λ i. record { kind = e i; spelling = f i }
 
 pub going_fine : (x y : Outcome) (u : State) → x ≡ y → x ≡ goes u → Fine y
 going_fine x y u e g = subst Fine e (fine_goes x u g)
@@ -28,8 +28,8 @@ kind_back k (w ∷ ws) s x out plain other steps l =
     let text = w.spelling in
     let e = steps w.kind p text in
     let by = tested (is k w.kind) (x p text) 3 p (going_fine _ _ l.1 e l.3) in
-    let kind : w.kind ≡ k = kind-is k w.kind by.0 ∙ plain (value_in w.kind) in
-    (p, l.1, text, ws, ap (λ v. v ∷ ws) (word-is w k text kind refl), subst (λ t. Proper t text) kind l.2, sym (e ∙ by.1) ∙ l.3, l.4)
+    let kind : w.kind ≡ k = kind_is k w.kind by.0 ∙ plain (value_in w.kind) in
+    (p, l.1, text, ws, ap (λ v. v ∷ ws) (word_is w k text kind refl), subst (λ t. Proper t text) kind l.2, sym (e ∙ by.1) ∙ l.3, l.4)
 
 -- a word that its kind alone spells
 pub mark_back : (k : Token) (mark : List ℕ) (ws : List Word) (s : State) (u : ℕ → State) (out : Outline) → ((v : ℕ) → rebuilt (kind_number k) v ≡ k) → is k End ≡ false → ((t : List ℕ) → Proper k t → t ≡ mark) → ((t : Token) (p : ℕ) (text : List ℕ) → step s t p text ≡ cond (is k t) (goes (u p)) (fails 3 p)) → Leads ws s out → (p : ℕ) × (rest : List Word) × (ws ≡ record { kind = k; spelling = mark } ∷ rest) × Leads rest (u p) out

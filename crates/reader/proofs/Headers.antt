@@ -18,16 +18,16 @@ long_enough bs space =
     ⊎_elim (λ short. let past : get_or bs 3 0 ≡ 0 = get_or_past bs 3 0 (omega arith) in absurd (omega arith)) (λ h. h) (cases_lt (length bs) 4)
 
 module _ (bs : List ℕ) (b : get_or bs 0 0 ≡ 66) (t : get_or bs 1 0 ≡ 84) (g : get_or bs 2 0 ≡ 71) (space : get_or bs 3 0 ≡ 32) where
-  from-version : cond (is_digit (get_or bs 4 0)) (versioned bs (token_at bs 4)) (Err (3, 4)) ≡ reading bs
-  from-version =
+  from_version : cond (is_digit (get_or bs 4 0)) (versioned bs (token_at bs 4)) (Err (3, 4)) ≡ reading bs
+  from_version =
       sym (cond-true (same_text (take 3 bs) (codes "BTG")) (after_mark bs) (Err (1, 0)) (marked bs (long_enough bs space) b t g)
       ∙ cond-true (eqb (get_or bs 3 0) 32) (cond (is_digit (get_or bs 4 0)) (versioned bs (token_at bs 4)) (Err (3, 4))) (Err (3, 3)) (eq-eqb (get_or bs 3 0) 32 space))
 
-  first-digit : (r : Bool) → r ≡ is_digit (get_or (take (length bs - 4) (drop 4 bs)) 0 0) → is_digit (get_or bs 4 0) ≡ r
-  first-digit r e = sym (e ∙ ap (λ xs. is_digit (get_or xs 0 0)) (take_rest bs 4) ∙ ap is_digit (get_or-drop 4 bs 0 0))
+  first_digit : (r : Bool) → r ≡ is_digit (get_or (take (length bs - 4) (drop 4 bs)) 0 0) → is_digit (get_or bs 4 0) ≡ r
+  first_digit r e = sym (e ∙ ap (λ xs. is_digit (get_or xs 0 0)) (take_rest bs 4) ∙ ap is_digit (get_or-drop 4 bs 0 0))
 
   pub no_digit : false ≡ is_digit (get_or (take (length bs - 4) (drop 4 bs)) 0 0) → Err (3, 4) ≡ reading bs
-  no_digit e = sym (cond-false (is_digit (get_or bs 4 0)) (versioned bs (token_at bs 4)) (Err (3, 4)) (first-digit false e)) ∙ from-version
+  no_digit e = sym (cond-false (is_digit (get_or bs 4 0)) (versioned bs (token_at bs 4)) (Err (3, 4)) (first_digit false e)) ∙ from_version
 
-  pub with-digit : true ≡ is_digit (get_or (take (length bs - 4) (drop 4 bs)) 0 0) → versioned bs (token_at bs 4) ≡ reading bs
-  with-digit e = sym (cond-true (is_digit (get_or bs 4 0)) (versioned bs (token_at bs 4)) (Err (3, 4)) (first-digit true e)) ∙ from-version
+  pub with_digit : true ≡ is_digit (get_or (take (length bs - 4) (drop 4 bs)) 0 0) → versioned bs (token_at bs 4) ≡ reading bs
+  with_digit e = sym (cond-true (is_digit (get_or bs 4 0)) (versioned bs (token_at bs 4)) (Err (3, 4)) (first_digit true e)) ∙ from_version

@@ -13,13 +13,13 @@ operands_append (two_sided o ∷ xs) ys = operands_append xs ys
 operands_append (constant l h ∷ xs) ys = operands_append xs ys
 operands_append (variable ∷ xs) ys = operands_append xs ys
 
-leaves-append : (xs ys : List Part) → leaves_among (xs ++ ys) ≡ leaves_among xs + leaves_among ys
-leaves-append [] ys = omega arith
-leaves-append (operand a ∷ xs) ys = leaves-append xs ys
-leaves-append (one_sided o ∷ xs) ys = leaves-append xs ys
-leaves-append (two_sided o ∷ xs) ys = leaves-append xs ys
-leaves-append (constant l h ∷ xs) ys = omega (arith, leaves-append xs ys)
-leaves-append (variable ∷ xs) ys = omega (arith, leaves-append xs ys)
+leaves_append : (xs ys : List Part) → leaves_among (xs ++ ys) ≡ leaves_among xs + leaves_among ys
+leaves_append [] ys = omega arith
+leaves_append (operand a ∷ xs) ys = leaves_append xs ys
+leaves_append (one_sided o ∷ xs) ys = leaves_append xs ys
+leaves_append (two_sided o ∷ xs) ys = leaves_append xs ys
+leaves_append (constant l h ∷ xs) ys = omega (arith, leaves_append xs ys)
+leaves_append (variable ∷ xs) ys = omega (arith, leaves_append xs ys)
 
 pub front_within : (xs ys : List Part) → within_limits (xs ++ ys) ≡ true → within_limits xs ≡ true
 front_within xs ys e =
@@ -27,20 +27,20 @@ front_within xs ys e =
     let second = and_parts (leb (operands_among (xs ++ ys)) 2) _ first.1 in
     and_from _ _ (le-leb (length xs) 7 (omega (arith, leb-true _ 7 first.0, length-append xs ys)))
     (and_from _ _ (le-leb (operands_among xs) 2 (omega (arith, leb-true _ 2 second.0, operands_append xs ys)))
-    (le-leb (leaves_among xs) 2 (omega (arith, leb-true _ 2 second.1, leaves-append xs ys))))
+    (le-leb (leaves_among xs) 2 (omega (arith, leb-true _ 2 second.1, leaves_append xs ys))))
 
 -- another range at the end
 pub other_range : (xs : List Part) (a b c d : ℕ) → within_limits (xs ++ constant a b ∷ []) ≡ within_limits (xs ++ constant c d ∷ [])
-other_range xs a b c d = λ i. leb (lengths i) 7 && (leb (operand-counts i) 2 && leb (leaf-counts i) 2)
+other_range xs a b c d = λ i. leb (lengths i) 7 && (leb (operand_counts i) 2 && leb (leaf_counts i) 2)
   where
     lengths : length (xs ++ constant a b ∷ []) ≡ length (xs ++ constant c d ∷ [])
     lengths = length-append xs (constant a b ∷ []) ∙ sym (length-append xs (constant c d ∷ []))
 
-    operand-counts : operands_among (xs ++ constant a b ∷ []) ≡ operands_among (xs ++ constant c d ∷ [])
-    operand-counts = operands_append xs (constant a b ∷ []) ∙ sym (operands_append xs (constant c d ∷ []))
+    operand_counts : operands_among (xs ++ constant a b ∷ []) ≡ operands_among (xs ++ constant c d ∷ [])
+    operand_counts = operands_append xs (constant a b ∷ []) ∙ sym (operands_append xs (constant c d ∷ []))
 
-    leaf-counts : leaves_among (xs ++ constant a b ∷ []) ≡ leaves_among (xs ++ constant c d ∷ [])
-    leaf-counts = leaves-append xs (constant a b ∷ []) ∙ sym (leaves-append xs (constant c d ∷ []))
+    leaf_counts : leaves_among (xs ++ constant a b ∷ []) ≡ leaves_among (xs ++ constant c d ∷ [])
+    leaf_counts = leaves_append xs (constant a b ∷ []) ∙ sym (leaves_append xs (constant c d ∷ []))
 
 pub replaced : (xs : List Part) (x y : Part) → last_replaced (xs ++ x ∷ []) y ≡ xs ++ y ∷ []
 replaced xs x y =

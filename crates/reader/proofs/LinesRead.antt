@@ -7,7 +7,7 @@ use Rattle.lexer.specs.declared.Token.{Token}
 use Rattle.lexer.specs.declared.Token.TheVariants.{LineEnd, Number, End}
 use Rattle.lexer.specs.Bytes.{is_digit}
 use Rattle.lexer.specs.Tokens.{token_at}
-use Rattle.lexer.proofs.Standing.{read-where-stands}
+use Rattle.lexer.proofs.Standing.{read_where_stands}
 use Rattle.description.specs.Outlines.{Declaration, Production, Outline}
 use Rattle.reader.specs.Words.{is, declared_from}
 use Rattle.reader.specs.Reading.{Draft, Awaits, directive, new_name, name_place, declaration_end, start_name, start_end, rule_or_end, left_colon, item, after_item, mnemonic_word, size_number, cycles_number, rule_end, State, goes, ends, fails, to, next_line, within_limits, lies, renames, left_found, start_found, step_at, step, nothing_read, versioned, reading}
@@ -15,7 +15,7 @@ use Rattle.reader.specs.Grammar.{Word, Spaced, name_word, percent_word, line_end
 use Rattle.reader.proofs.TokenKinds.{number_goes}
 use Rattle.reader.proofs.Walks.{Always, always_read}
 use Rattle.reader.proofs.Namings.{found, none_fresh, apart_fresh}
-use Rattle.reader.proofs.PatternRead.{pattern-always}
+use Rattle.reader.proofs.PatternRead.{pattern_always}
 
 -- a rule that has been read
 abbrev pub ruled : State → List Production → Awaits → State
@@ -66,7 +66,7 @@ rule_always r ws rest s out apart rw few cont =
         to s (item start),
         refl,
         subst (λ l. Always l (to s (item start)) out) (sym (append_assoc rw.pattern_words tail rest))
-            (pattern-always s out apart rw.pattern_form rw.pattern_words (tail ++ rest) start (item start) _ (λ u t p text. refl) rw.pattern_is
+            (pattern_always s out apart rw.pattern_form rw.pattern_words (tail ++ rest) start (item start) _ (λ u t p text. refl) rw.pattern_is
             (ap within_limits (sym rw.items_are) ∙ rw.few_items)
             (subst (λ xs. Always (tail ++ rest) (to s (after_item (record { left_name = r.derives; so_far = xs; brackets = [] }))) out) rw.items_are after-pattern)),
       ),
@@ -172,7 +172,7 @@ text_read o bs h = subst (λ l. reading l ≡ Ok o) (sym h.bytes_are) whole
         let parts : length (h.version ++ h.rest) ≡ length h.version + length h.rest = length-append h.version h.rest in
         let inside : 4 + length h.version ≤ length bytes = omega arith in
         let here : token_at bytes 4 ≡ Ok (Number 1, (4, length h.version)) =
-        read-where-stands bytes 4 (omega arith) (Number 1) 4 (length h.version) (record {
+        read_where_stands bytes 4 (omega arith) (Number 1) 4 (length h.version) (record {
           spaces = (omega arith, λ k low high. absurd (omega arith));
           inside = inside;
           denotes = h.version_is;

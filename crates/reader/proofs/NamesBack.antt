@@ -10,11 +10,11 @@ use Rattle.description.proofs.Names.{same_text_true}
 use Rattle.reader.specs.Words.{is, declared_from}
 use Rattle.reader.specs.Reading.{directive, new_name, name_place, start_name, State, Outcome, goes, fails, to, name_declared}
 use Rattle.reader.specs.Grammar.{Word, name_word, capitals_word, percent_word, Apart, declaration_words}
-use Rattle.reader.proofs.TokenKinds.{kind-is, Fine, fine_goes, tested, passed}
+use Rattle.reader.proofs.TokenKinds.{kind_is, Fine, fine_goes, tested, passed}
 use Rattle.reader.proofs.Walks.{Leads}
 use Rattle.reader.proofs.Namings.{fresh_none, apart_push}
 use Rattle.reader.proofs.LinesRead.{declared_too}
-use Rattle.reader.proofs.Expected.{same_state, word-is, kind_back, mark_back}
+use Rattle.reader.proofs.Expected.{same_state, word_is, kind_back, mark_back}
 
 pub record NamesParsed (s : State) (out : Outline) (ws : List Word) : Type 0 where
   pub names : List Declaration
@@ -36,7 +36,7 @@ place_back s out letters (w ∷ ws) l =
     let both = and_parts (is Capitals w.kind) (eqb (length w.spelling) 1) by.0 in (
       x,
       ws,
-      ap (λ v. v ∷ ws) (word-is w Capitals (x ∷ []) (kind-is Capitals w.kind both.0) (single w.spelling (eqb-true (length w.spelling) 1 both.1))),
+      ap (λ v. v ∷ ws) (word_is w Capitals (x ∷ []) (kind_is Capitals w.kind both.0) (single w.spelling (eqb-true (length w.spelling) 1 both.1))),
       subst (λ v. Leads ws v out) (sym (same_state (name_declared s letters x) l.1 (sym by.1 ∙ l.3))) l.4,
     )
   where
@@ -133,12 +133,12 @@ names_back (suc n) (v ∷ ws) s out short apart few l =
     more_from s out v ws name
     (names_back n name.rest (declared_too s (name.name ∷ []) (name.place + 1)) out (omega (arith, ap length name.ws_are)) name.apart
     (omega (arith, name.few, length_push s.outline.declarations name.name)) name.onward)
-    (word-is v Percent (codes "%nt") (kind-is Percent v.kind both.0) (same_text_true text (codes "%nt") both.1)))
+    (word_is v Percent (codes "%nt") (kind_is Percent v.kind both.0) (same_text_true text (codes "%nt") both.1)))
     (λ c.
     let e : at_start ≡ goes u = sym (cond-false (is Percent v.kind && same_text text (codes "%nt")) (goes (to s new_name)) at_start c) ∙ l.3 in
     let by = tested starts (goes (to s start_name)) 3 p (fine_goes at_start u e) in
     let both = and_parts (is Percent v.kind) (same_text text (codes "%start") && ltb 0 (length s.outline.declarations)) by.0 in
     let last = and_parts (same_text text (codes "%start")) (ltb 0 (length s.outline.declarations)) both.1 in
-    none_from s out v ws (word-is v Percent (codes "%start") (kind-is Percent v.kind both.0) (same_text_true text (codes "%start") last.0)) apart few
+    none_from s out v ws (word_is v Percent (codes "%start") (kind_is Percent v.kind both.0) (same_text_true text (codes "%start") last.0)) apart few
     (ltb-true 0 (length s.outline.declarations) last.1) (subst (λ x. Leads ws x out) (sym (same_state (to s start_name) u (sym by.1 ∙ e))) l.4))
     (cases_Bool (is Percent v.kind && same_text text (codes "%nt")))

@@ -15,13 +15,13 @@ operands_append (two_sided o ∷ xs) ys = operands_append xs ys
 operands_append (constant l h ∷ xs) ys = operands_append xs ys
 operands_append (variable ∷ xs) ys = operands_append xs ys
 
-pub leaves-append : (xs ys : List Part) → leaves_among (xs ++ ys) ≡ leaves_among xs + leaves_among ys
-leaves-append [] ys = omega arith
-leaves-append (operand a ∷ xs) ys = leaves-append xs ys
-leaves-append (one_sided o ∷ xs) ys = leaves-append xs ys
-leaves-append (two_sided o ∷ xs) ys = leaves-append xs ys
-leaves-append (constant l h ∷ xs) ys = omega (arith, leaves-append xs ys)
-leaves-append (variable ∷ xs) ys = omega (arith, leaves-append xs ys)
+pub leaves_append : (xs ys : List Part) → leaves_among (xs ++ ys) ≡ leaves_among xs + leaves_among ys
+leaves_append [] ys = omega arith
+leaves_append (operand a ∷ xs) ys = leaves_append xs ys
+leaves_append (one_sided o ∷ xs) ys = leaves_append xs ys
+leaves_append (two_sided o ∷ xs) ys = leaves_append xs ys
+leaves_append (constant l h ∷ xs) ys = omega (arith, leaves_append xs ys)
+leaves_append (variable ∷ xs) ys = omega (arith, leaves_append xs ys)
 
 pub operands_few : (xs : List Part) → operands_among xs ≤ length xs
 operands_few [] = omega arith
@@ -31,58 +31,58 @@ operands_few (two_sided o ∷ xs) = omega (arith, operands_few xs)
 operands_few (constant l h ∷ xs) = omega (arith, operands_few xs)
 operands_few (variable ∷ xs) = omega (arith, operands_few xs)
 
-pub leaves-few : (xs : List Part) → leaves_among xs ≤ length xs
-leaves-few [] = omega arith
-leaves-few (operand a ∷ xs) = omega (arith, leaves-few xs)
-leaves-few (one_sided o ∷ xs) = omega (arith, leaves-few xs)
-leaves-few (two_sided o ∷ xs) = omega (arith, leaves-few xs)
-leaves-few (constant l h ∷ xs) = omega (arith, leaves-few xs)
-leaves-few (variable ∷ xs) = omega (arith, leaves-few xs)
+pub leaves_few : (xs : List Part) → leaves_among xs ≤ length xs
+leaves_few [] = omega arith
+leaves_few (operand a ∷ xs) = omega (arith, leaves_few xs)
+leaves_few (one_sided o ∷ xs) = omega (arith, leaves_few xs)
+leaves_few (two_sided o ∷ xs) = omega (arith, leaves_few xs)
+leaves_few (constant l h ∷ xs) = omega (arith, leaves_few xs)
+leaves_few (variable ∷ xs) = omega (arith, leaves_few xs)
 
 -- the first n items, as parts
 module _ (n : ℕ) (items : List Item) (h : n ≤ length items) where
-  pub count-is : length (map part_of (take n items)) ≡ n
-  count-is = length-map (take n items) part_of ∙ length-take-le n items h
+  pub count_is : length (map part_of (take n items)) ≡ n
+  count_is = length-map (take n items) part_of ∙ length-take-le n items h
 
 module _ (n : ℕ) (items : List Item) (x : Item) (h : n < length items) where
-  pub item-gained : map part_of (take (n + 1) (set items n x)) ≡ map part_of (take n items) ++ part_of x ∷ []
-  item-gained = ap (map part_of) (take_more_set items n x h) ∙ map_push part_of (take n items) x
+  pub item_gained : map part_of (take (n + 1) (set items n x)) ≡ map part_of (take n items) ++ part_of x ∷ []
+  item_gained = ap (map part_of) (take_more_set items n x h) ∙ map_push part_of (take n items) x
 
 module _ (xs : List Part) (x : Part) where
-  pub limits-kept : length xs < 7 → operands_among xs + operands_among (x ∷ []) ≤ 2 → leaves_among xs + leaves_among (x ∷ []) ≤ 2 → within_limits (xs ++ x ∷ []) ≡ true
-  limits-kept a b c =
+  pub limits_kept : length xs < 7 → operands_among xs + operands_among (x ∷ []) ≤ 2 → leaves_among xs + leaves_among (x ∷ []) ≤ 2 → within_limits (xs ++ x ∷ []) ≡ true
+  limits_kept a b c =
       let items : length (xs ++ x ∷ []) ≤ 7 = omega (arith, length_push xs x) in
       let operands : operands_among (xs ++ x ∷ []) ≤ 2 = omega (arith, operands_append xs (x ∷ [])) in
-      let leaves : leaves_among (xs ++ x ∷ []) ≤ 2 = omega (arith, leaves-append xs (x ∷ [])) in
+      let leaves : leaves_among (xs ++ x ∷ []) ≤ 2 = omega (arith, leaves_append xs (x ∷ [])) in
       and_from _ _ (le-leb _ 7 items) (and_from _ _ (le-leb _ 2 operands) (le-leb _ 2 leaves))
 
-  pub too-many-items : 7 ≤ length xs → within_limits (xs ++ x ∷ []) ≡ false
-  too-many-items a =
+  pub too_many_items : 7 ≤ length xs → within_limits (xs ++ x ∷ []) ≡ false
+  too_many_items a =
       let items : 7 < length (xs ++ x ∷ []) = omega (arith, length_push xs x) in
       and_left _ _ (lt-leb _ 7 items)
 
-  pub too-many-operands : 2 < operands_among xs + operands_among (x ∷ []) → within_limits (xs ++ x ∷ []) ≡ false
-  too-many-operands a =
+  pub too_many_operands : 2 < operands_among xs + operands_among (x ∷ []) → within_limits (xs ++ x ∷ []) ≡ false
+  too_many_operands a =
       let operands : 2 < operands_among (xs ++ x ∷ []) = omega (arith, operands_append xs (x ∷ [])) in
       and_right (leb (length (xs ++ x ∷ [])) 7) _ (and_left _ _ (lt-leb _ 2 operands))
 
-  pub too-many-leaves : 2 < leaves_among xs + leaves_among (x ∷ []) → within_limits (xs ++ x ∷ []) ≡ false
-  too-many-leaves a =
-      let leaves : 2 < leaves_among (xs ++ x ∷ []) = omega (arith, leaves-append xs (x ∷ [])) in
+  pub too_many_leaves : 2 < leaves_among xs + leaves_among (x ∷ []) → within_limits (xs ++ x ∷ []) ≡ false
+  too_many_leaves a =
+      let leaves : 2 < leaves_among (xs ++ x ∷ []) = omega (arith, leaves_append xs (x ∷ [])) in
       and_right (leb (length (xs ++ x ∷ [])) 7) _ (and_right (leb (operands_among (xs ++ x ∷ [])) 2) _ (lt-leb _ 2 leaves))
 
 -- the last of the first n items replaced
 module _ (n : ℕ) (items : List Item) (x : Item) (h : n ≤ length items) (some : EndsInConstant (map part_of (take n items))) where
-  pub counted-one : 1 ≤ n
-  counted-one = omega (arith, count-is n items h, ap length some.3, length_push some.0 (constant some.1 some.2))
+  pub counted_one : 1 ≤ n
+  counted_one = omega (arith, count_is n items h, ap length some.3, length_push some.0 (constant some.1 some.2))
 
-  pub item-replaced : map part_of (take n (set items (n - 1) x)) ≡ last_replaced (map part_of (take n items)) (part_of x)
-  item-replaced =
-      let one = counted-one in
+  pub item_replaced : map part_of (take n (set items (n - 1) x)) ≡ last_replaced (map part_of (take n items)) (part_of x)
+  item_replaced =
+      let one = counted_one in
       let back : n ≡ n - 1 + 1 = omega arith in
-      let less : length (map part_of (take n items)) - 1 ≡ n - 1 = omega (arith, count-is n items h) in
+      let less : length (map part_of (take n items)) - 1 ≡ n - 1 = omega (arith, count_is n items h) in
       ap (λ k. map part_of (take k (set items (n - 1) x))) back
-      ∙ item-gained (n - 1) items x (omega arith)
+      ∙ item_gained (n - 1) items x (omega arith)
       ∙ ap (λ xs. xs ++ part_of x ∷ [])
       (sym (ap (λ k. take k (map part_of (take n items))) less ∙ take-map part_of (n - 1) (take n items) ∙ ap (map part_of) (take-take (n - 1) n items (omega arith))))
 
@@ -101,5 +101,5 @@ operands_replaced xs some l h =
 
 pub leaves_replaced : (xs : List Part) (some : EndsInConstant xs) (l h : ℕ) → leaves_among (last_replaced xs (constant l h)) ≡ leaves_among xs
 leaves_replaced xs some l h =
-    ap leaves_among (replaced_end xs some (constant l h)) ∙ leaves-append some.0 (constant l h ∷ [])
-    ∙ sym (ap leaves_among some.3 ∙ leaves-append some.0 (constant some.1 some.2 ∷ []))
+    ap leaves_among (replaced_end xs some (constant l h)) ∙ leaves_append some.0 (constant l h ∷ [])
+    ∙ sym (ap leaves_among some.3 ∙ leaves_append some.0 (constant some.1 some.2 ∷ []))

@@ -13,12 +13,12 @@ use Rattle.description.specs.Outlines.{Part, operand, one_sided, two_sided, cons
 use Rattle.reader.specs.Words.{is, value_in, operator_called, declared_from}
 use Rattle.reader.specs.Reading.{Bracket, Draft, Awaits, first_item, item, opening, after_item, after_constant, low_end, two_dots, high_end, State, Outcome, goes, fails, to, within_limits, filled_one, with_brackets, gained, part_read, gain, declared, operand_item, capital_item, any_item, item_done, ranged}
 use Rattle.reader.specs.Grammar.{Word, name_word, capitals_word, colon, open_bracket, close_bracket, comma, dots, Form, name_form, constant_form, variable_form, one_form, two_form, items_in, PatternWords}
-use Rattle.reader.proofs.TokenKinds.{Proper, kind-is, Fine, fine_goes, tested, passed}
+use Rattle.reader.proofs.TokenKinds.{Proper, kind_is, Fine, fine_goes, tested, passed}
 use Rattle.reader.proofs.Walks.{Leads}
 use Rattle.reader.proofs.Namings.{named, name_called}
 use Rattle.reader.proofs.Limits.{other_range, replaced}
 use Rattle.reader.proofs.PatternRead.{grown, Takes, done_same}
-use Rattle.reader.proofs.Expected.{same_state, word-is, mark_back, number_back, figure_back}
+use Rattle.reader.proofs.Expected.{same_state, word_is, mark_back, number_back, figure_back}
 
 -- what the words begin with: a pattern, after which they lead on
 pub record Parsed (s : State) (out : Outline) (d : Draft) (ws : List Word) : Type 0 where
@@ -81,10 +81,10 @@ gain_back s d x k u e =
 
 module _ (s : State) (out : Outline) where
   -- a part of a bracket is read: a comma after the first, or the bracket's end after the last
-  done-back : (ws : List Word) (n : ℕ) (xs : List Part) (b : Bracket) (bs : List Bracket) → Leads ws (to s (after_item (record { left_name = n; so_far = xs; brackets = b ∷ bs }))) out → ((b.filled ≡ 1) × (rest : List Word) × (ws ≡ comma ∷ rest) × Leads rest (to s (item (record { left_name = n; so_far = xs; brackets = b ∷ bs }))) out) ⊎ ((b.filled ≡ b.wants) × (rest : List Word) × (ws ≡ close_bracket ∷ rest) × Leads rest (to s (after_item (record { left_name = n; so_far = xs; brackets = filled_one bs }))) out)
+  done_back : (ws : List Word) (n : ℕ) (xs : List Part) (b : Bracket) (bs : List Bracket) → Leads ws (to s (after_item (record { left_name = n; so_far = xs; brackets = b ∷ bs }))) out → ((b.filled ≡ 1) × (rest : List Word) × (ws ≡ comma ∷ rest) × Leads rest (to s (item (record { left_name = n; so_far = xs; brackets = b ∷ bs }))) out) ⊎ ((b.filled ≡ b.wants) × (rest : List Word) × (ws ≡ close_bracket ∷ rest) × Leads rest (to s (after_item (record { left_name = n; so_far = xs; brackets = filled_one bs }))) out)
   unfolding Leads
-  done-back [] n xs b bs l = absurd (subst Fine (sym l.2) tt)
-  done-back (w ∷ ws) n xs b bs l =
+  done_back [] n xs b bs l = absurd (subst Fine (sym l.2) tt)
+  done_back (w ∷ ws) n xs b bs l =
       let p = l.0 in
       let u = l.1 in
       let d : Draft = record { left_name = n; so_far = xs; brackets = b ∷ bs } in
@@ -96,11 +96,11 @@ module _ (s : State) (out : Outline) where
       (λ c.
       let e : at-comma ≡ goes u = sym (cond-true (is Comma w.kind) at-comma (cond (is Close w.kind) at-close (fails 3 p)) c) ∙ l.3 in
       let by = tested (eqb b.filled 1) on 3 p (fine_goes at-comma u e) in
-      let kind = kind-is Comma w.kind c in
+      let kind = kind_is Comma w.kind c in
       inl (
         eqb-true b.filled 1 by.0,
         ws,
-        ap (λ v. v ∷ ws) (word-is w Comma (codes ",") kind (subst (λ t. Proper t w.spelling) kind l.2)),
+        ap (λ v. v ∷ ws) (word_is w Comma (codes ",") kind (subst (λ t. Proper t w.spelling) kind l.2)),
         subst (λ v. Leads ws v out) (sym (same_state (to s (item d)) u (sym by.1 ∙ e))) l.4,
       ))
       (λ c.
@@ -108,11 +108,11 @@ module _ (s : State) (out : Outline) where
       let closes = tested (is Close w.kind) at-close 3 p (fine_goes _ u e) in
       let f : at-close ≡ goes u = sym closes.1 ∙ e in
       let by = tested (eqb b.filled b.wants) off 5 b.stands (fine_goes at-close u f) in
-      let kind = kind-is Close w.kind closes.0 in
+      let kind = kind_is Close w.kind closes.0 in
       inr (
         eqb-true b.filled b.wants by.0,
         ws,
-        ap (λ v. v ∷ ws) (word-is w Close (codes ")") kind (subst (λ t. Proper t w.spelling) kind l.2)),
+        ap (λ v. v ∷ ws) (word_is w Close (codes ")") kind (subst (λ t. Proper t w.spelling) kind l.2)),
         subst (λ v. Leads ws v out) (sym (same_state _ u (sym by.1 ∙ f))) l.4,
       ))
       (cases_Bool (is Comma w.kind))
@@ -143,7 +143,7 @@ module _ (s : State) (out : Outline) where
             onward = last.3;
           },
         ))
-        (done-back two.rest d.left_name _ _ _ two.onward)
+        (done_back two.rest d.left_name _ _ _ two.onward)
 
     one_from : (n : ℕ) → Reads s out n → length ws1 < n → Parsed s out inner ws1 → ((wants ≡ 1) × OnePart s out d ws) ⊎ ((wants ≡ 2) × TwoParts s out d ws)
     one_from n ih few one =
@@ -164,10 +164,10 @@ module _ (s : State) (out : Outline) where
             onward = last.3;
           },
         ))
-        (done-back one.rest d.left_name _ _ _ one.onward)
+        (done_back one.rest d.left_name _ _ _ one.onward)
 
-  bracket-back : (n : ℕ) → Reads s out n → (wants p : ℕ) (d : Draft) (ws : List Word) → length ws ≤ n → Leads ws (to s (opening wants p d)) out → ((wants ≡ 1) × OnePart s out d ws) ⊎ ((wants ≡ 2) × TwoParts s out d ws)
-  bracket-back n ih wants p d ws few l =
+  bracket_back : (n : ℕ) → Reads s out n → (wants p : ℕ) (d : Draft) (ws : List Word) → length ws ≤ n → Leads ws (to s (opening wants p d)) out → ((wants ≡ 1) × OnePart s out d ws) ⊎ ((wants ≡ 2) × TwoParts s out d ws)
+  bracket_back n ih wants p d ws few l =
       let within : Draft = with_brackets d (record { wants = wants; stands = p; filled = 0 } ∷ d.brackets) in
       let opened = mark_back Open (codes "(") ws (to s (opening wants p d)) (λ _. to s (first_item within)) out (λ v. refl) refl (λ t h. h) (λ t p text. refl) l in
       let short : length opened.1 < n = omega (arith, ap length opened.2) in
@@ -175,8 +175,8 @@ module _ (s : State) (out : Outline) where
       (ih opened.1 within (first_item within) (λ t q. cond (is Close t) (fails 5 p) (fails 3 q)) short (λ u t q text. refl)
       (λ t q. cond_both (is Close t) _ _ (λ x. Fine x → ⊥) (λ _ f. f) (λ _ f. f)) opened.3)
 
-  high-from : (w : Word) (ws : List Word) (d : Draft) (v q : ℕ) (first : Word) (rest ws2 : List Word) → w ≡ colon → ws ≡ first ∷ rest → first.kind ≡ Number v → rest ≡ dots ∷ ws2 → Leads ws2 (to s (high_end v q d)) out → Range s out d (w ∷ ws)
-  high-from w ws d v q first rest ws2 is e kind f l =
+  high_from : (w : Word) (ws : List Word) (d : Draft) (v q : ℕ) (first : Word) (rest ws2 : List Word) → w ≡ colon → ws ≡ first ∷ rest → first.kind ≡ Number v → rest ≡ dots ∷ ws2 → Leads ws2 (to s (high_end v q d)) out → Range s out d (w ∷ ws)
+  high_from w ws d v q first rest ws2 is e kind f l =
       let high = number_back (2 ^ 32 - 1) ws2 (to s (high_end v q d)) (λ t r. cond (ltb (value_in t) v) (fails 6 q) (goes (to s (after_item (ranged d v (value_in t)))))) out (omega arith) (λ t r text. refl) l in
       let h = value_in high.2.kind in
       let by = passed (ltb h v) (goes (to s (after_item (ranged d v h)))) 6 q (fine_goes _ high.1 high.7) in
@@ -193,24 +193,24 @@ module _ (s : State) (out : Outline) where
         onward = subst (λ x. Leads high.3 x out) (sym (same_state (to s (after_item (ranged d v h))) high.1 (sym by.1 ∙ high.7))) high.8;
       }
 
-  range-from : (w : Word) (ws : List Word) (d : Draft) → w ≡ colon → Leads ws (to s (low_end d)) out → Range s out d (w ∷ ws)
-  range-from w ws d is l =
+  range_from : (w : Word) (ws : List Word) (d : Draft) → w ≡ colon → Leads ws (to s (low_end d)) out → Range s out d (w ∷ ws)
+  range_from w ws d is l =
       let low = figure_back (2 ^ 32 - 1) ws (to s (low_end d)) (λ v q. to s (two_dots v q d)) out (omega arith) (λ t q text. refl) l in
       let between = mark_back Dots (codes "..") low.rest (to s (two_dots low.value low.place d)) (λ _. to s (high_end low.value low.place d)) out (λ v. refl) refl (λ t h. h) (λ t q text. refl) low.onward in
-      high-from w ws d low.value low.place low.word low.rest between.1 is low.ws_are low.is_number between.2 between.3
+      high_from w ws d low.value low.place low.word low.rest between.1 is low.ws_are low.is_number between.2 between.3
 
   -- after a constant: its range, or as after an item
-  constant-back : (ws : List Word) (d : Draft) → Leads ws (to s (after_constant d)) out → Range s out d ws ⊎ Leads ws (to s (after_item d)) out
+  constant_back : (ws : List Word) (d : Draft) → Leads ws (to s (after_constant d)) out → Range s out d ws ⊎ Leads ws (to s (after_item d)) out
   unfolding Leads
-  constant-back [] d l = inr (l.0, l.1, done_same s (after_item d) (after_constant d) d d.brackets End l.0 ∙ l.2)
-  constant-back (w ∷ ws) d l =
+  constant_back [] d l = inr (l.0, l.1, done_same s (after_item d) (after_constant d) d d.brackets End l.0 ∙ l.2)
+  constant_back (w ∷ ws) d l =
       let p = l.0 in
       let u = l.1 in
       ⊎_elim
       (λ c.
       let at_low : goes (to s (low_end d)) ≡ goes u = sym (cond-true (is Colon w.kind) (goes (to s (low_end d))) (item_done (to s (after_constant d)) d d.brackets w.kind p) c) ∙ l.3 in
-      let kind = kind-is Colon w.kind c in
-      inl (range-from w ws d (word-is w Colon (codes ":") kind (subst (λ t. Proper t w.spelling) kind l.2))
+      let kind = kind_is Colon w.kind c in
+      inl (range_from w ws d (word_is w Colon (codes ":") kind (subst (λ t. Proper t w.spelling) kind l.2))
       (subst (λ v. Leads ws v out) (sym (same_state (to s (low_end d)) u at_low)) l.4)))
       (λ c. inr (
         p,
@@ -234,14 +234,14 @@ module _ (s : State) (out : Outline) where
           form = name_form a;
           words = name_word v.spelling ∷ [];
           rest = ws;
-          ws_are = ap (λ x. x ∷ ws) (word-is v Name v.spelling kind refl);
+          ws_are = ap (λ x. x ∷ ws) (word_is v Name v.spelling kind refl);
           is_pattern = (v.spelling, named v.spelling s.outline.declarations a is, refl);
           fits = by.0;
           onward = there _ by.1;
         }
 
-    constant-parsed : v ≡ capitals_word (operator_name Cnst) → capital_item (to s w) d p (Some Cnst) ≡ goes u → Parsed s out d (v ∷ ws)
-    constant-parsed is e =
+    constant_parsed : v ≡ capitals_word (operator_name Cnst) → capital_item (to s w) d p (Some Cnst) ≡ goes u → Parsed s out d (v ∷ ws)
+    constant_parsed is e =
         let full : Part = constant 0 (2 ^ 32 - 1) in
         let by = gain_back (to s w) d full (λ e. after_constant (part_read e)) u e in
         ⊎_elim
@@ -265,10 +265,10 @@ module _ (s : State) (out : Outline) where
           fits = by.0;
           onward = bare;
         })
-        (constant-back ws (grown d (full ∷ [])) (there _ by.1))
+        (constant_back ws (grown d (full ∷ [])) (there _ by.1))
 
-    one-parsed : (n : ℕ) → Reads s out n → length ws ≤ n → (o : Unary) → v ≡ capitals_word (operator_name (One o)) → capital_item (to s w) d p (Some (One o)) ≡ goes u → Parsed s out d (v ∷ ws)
-    one-parsed n ih few o is e =
+    one_parsed : (n : ℕ) → Reads s out n → length ws ≤ n → (o : Unary) → v ≡ capitals_word (operator_name (One o)) → capital_item (to s w) d p (Some (One o)) ≡ goes u → Parsed s out d (v ∷ ws)
+    one_parsed n ih few o is e =
         let by = gain_back (to s w) d (one_sided o) (opening 1 p) u e in
         ⊎_elim
         (λ one.
@@ -285,10 +285,10 @@ module _ (s : State) (out : Outline) where
               subst (λ xs. Leads r.rest (to s (after_item (record { left_name = d.left_name; so_far = xs; brackets = filled_one d.brackets }))) out) regrouped r.onward;
         })
         (λ two. absurd (omega (arith, two.0)))
-        (bracket-back n ih 1 p (gained d (one_sided o)) ws few (there _ by.1))
+        (bracket_back n ih 1 p (gained d (one_sided o)) ws few (there _ by.1))
 
-    two-parsed : (n : ℕ) → Reads s out n → length ws ≤ n → (o : Binary) → v ≡ capitals_word (operator_name (Two o)) → capital_item (to s w) d p (Some (Two o)) ≡ goes u → Parsed s out d (v ∷ ws)
-    two-parsed n ih few o is e =
+    two_parsed : (n : ℕ) → Reads s out n → length ws ≤ n → (o : Binary) → v ≡ capitals_word (operator_name (Two o)) → capital_item (to s w) d p (Some (Two o)) ≡ goes u → Parsed s out d (v ∷ ws)
+    two_parsed n ih few o is e =
         let by = gain_back (to s w) d (two_sided o) (opening 2 p) u e in
         ⊎_elim
         (λ one. absurd (omega (arith, one.0)))
@@ -310,24 +310,24 @@ module _ (s : State) (out : Outline) where
           onward =
               subst (λ xs. Leads r.rest (to s (after_item (record { left_name = d.left_name; so_far = xs; brackets = filled_one d.brackets }))) out) regrouped r.onward;
         })
-        (bracket-back n ih 2 p (gained d (two_sided o)) ws few (there _ by.1))
+        (bracket_back n ih 2 p (gained d (two_sided o)) ws few (there _ by.1))
 
-    capital-back : (n : ℕ) → Reads s out n → length ws ≤ n → (o : Option Operator) → v.kind ≡ Capitals → operator_called v.spelling ≡ o → capital_item (to s w) d p o ≡ goes u → Parsed s out d (v ∷ ws)
-    capital-back n ih few None kind is e = absurd (subst Fine (sym e) tt)
-    capital-back n ih few (Some Cnst) kind is e = constant-parsed (word-is v Capitals _ kind (name_called v.spelling Cnst is)) e
-    capital-back n ih few (Some Var) kind is e =
+    capital_back : (n : ℕ) → Reads s out n → length ws ≤ n → (o : Option Operator) → v.kind ≡ Capitals → operator_called v.spelling ≡ o → capital_item (to s w) d p o ≡ goes u → Parsed s out d (v ∷ ws)
+    capital_back n ih few None kind is e = absurd (subst Fine (sym e) tt)
+    capital_back n ih few (Some Cnst) kind is e = constant_parsed (word_is v Capitals _ kind (name_called v.spelling Cnst is)) e
+    capital_back n ih few (Some Var) kind is e =
         let by = gain_back (to s w) d variable (λ e. after_item (part_read e)) u e in
         record {
           form = variable_form;
           words = capitals_word (operator_name Var) ∷ [];
           rest = ws;
-          ws_are = ap (λ x. x ∷ ws) (word-is v Capitals (operator_name Var) kind (name_called v.spelling Var is));
+          ws_are = ap (λ x. x ∷ ws) (word_is v Capitals (operator_name Var) kind (name_called v.spelling Var is));
           is_pattern = refl;
           fits = by.0;
           onward = there _ by.1;
         }
-    capital-back n ih few (Some (One o)) kind is e = one-parsed n ih few o (word-is v Capitals _ kind (name_called v.spelling (One o) is)) e
-    capital-back n ih few (Some (Two o)) kind is e = two-parsed n ih few o (word-is v Capitals _ kind (name_called v.spelling (Two o) is)) e
+    capital_back n ih few (Some (One o)) kind is e = one_parsed n ih few o (word_is v Capitals _ kind (name_called v.spelling (One o) is)) e
+    capital_back n ih few (Some (Two o)) kind is e = two_parsed n ih few o (word_is v Capitals _ kind (name_called v.spelling (Two o) is)) e
 
   item_back : (n : ℕ) → Reads s out n → Reads s out (suc n)
   unfolding Leads
@@ -339,15 +339,15 @@ module _ (s : State) (out : Outline) where
       let at_name : Outcome = operand_item (to s w) d p (declared s v.spelling) in
       let at-capitals : Outcome = capital_item (to s w) d p (operator_called v.spelling) in
       ⊎_elim
-      (λ c. name_back v ws d w p u l.4 _ (kind-is Name v.kind c) refl (sym (cond-true (is Name v.kind) at_name _ c) ∙ e))
+      (λ c. name_back v ws d w p u l.4 _ (kind_is Name v.kind c) refl (sym (cond-true (is Name v.kind) at_name _ c) ∙ e))
       (λ c.
       let f : cond (is Capitals v.kind) at-capitals (other v.kind p) ≡ goes u = sym (cond-false (is Name v.kind) at_name _ c) ∙ e in
       ⊎_elim
-      (λ k. capital-back v ws d w p u l.4 n ih (omega arith) _ (kind-is Capitals v.kind k) refl (sym (cond-true (is Capitals v.kind) at-capitals _ k) ∙ f))
+      (λ k. capital_back v ws d w p u l.4 n ih (omega arith) _ (kind_is Capitals v.kind k) refl (sym (cond-true (is Capitals v.kind) at-capitals _ k) ∙ f))
       (λ k. absurd (barred v.kind p (fine_goes _ u (sym (cond-false (is Capitals v.kind) at-capitals _ k) ∙ f))))
       (cases_Bool (is Capitals v.kind)))
       (cases_Bool (is Name v.kind))
 
-  pub pattern-back : (n : ℕ) → Reads s out n
-  pattern-back zero ws d w other few takes barred l = absurd (omega arith)
-  pattern-back (suc n) ws d w other few takes barred l = item_back n (pattern-back n) ws d w other few takes barred l
+  pub pattern_back : (n : ℕ) → Reads s out n
+  pattern_back zero ws d w other few takes barred l = absurd (omega arith)
+  pattern_back (suc n) ws d w other few takes barred l = item_back n (pattern_back n) ws d w other few takes barred l

@@ -11,7 +11,7 @@ use Rattle.description.specs.Outlines.{Part, operand, one_sided, two_sided, cons
 use Rattle.reader.specs.Words.{is}
 use Rattle.reader.specs.Reading.{Bracket, Draft, Awaits, first_item, item, opening, after_item, after_constant, low_end, two_dots, high_end, State, Outcome, goes, fails, to, within_limits, filled_one, with_brackets, gained, part_read, gain, operand_item, capital_item, any_item, item_done, ranged, step_at, step}
 use Rattle.reader.specs.Grammar.{Word, colon, close_bracket, comma, dots, Apart, Form, name_form, constant_form, variable_form, one_form, two_form, items_in, PatternWords}
-use Rattle.reader.proofs.TokenKinds.{Proper, kind-is, number_goes, Fine, fine_goes}
+use Rattle.reader.proofs.TokenKinds.{Proper, kind_is, number_goes, Fine, fine_goes}
 use Rattle.reader.proofs.Walks.{Always}
 use Rattle.reader.proofs.Namings.{found, called}
 use Rattle.reader.proofs.Limits.{front_within, other_range, replaced}
@@ -43,18 +43,18 @@ constant_always [] s d out a = λ p text. done_same s (after_constant d) (after_
 constant_always (w ∷ ws) s d out a = λ p pr.
     let on = a p pr in
     let other : is Colon w.kind ≡ false = ⊎_elim
-    (λ e. absurd (no_colon (to s (after_item d)) d d.brackets p (fine_goes _ on.0 (ap (λ t. item_done (to s (after_item d)) d d.brackets t p) (sym (kind-is Colon w.kind e)) ∙ on.1))))
+    (λ e. absurd (no_colon (to s (after_item d)) d d.brackets p (fine_goes _ on.0 (ap (λ t. item_done (to s (after_item d)) d d.brackets t p) (sym (kind_is Colon w.kind e)) ∙ on.1))))
     (λ e. e) (cases_Bool (is Colon w.kind)) in
     (on.0, cond-false (is Colon w.kind) _ _ other ∙ done_same s (after_constant d) (after_item d) d d.brackets w.kind p ∙ on.1, on.2)
 
 module _ (s : State) (out : Outline) (apart : Apart s.outline.declarations) where
-  operator-goes : (d : Draft) (w : Awaits) (other : Token → ℕ → Outcome) → Takes d w other → (o : Operator) (p : ℕ) (u : State) → capital_item (to s w) d p (Some o) ≡ goes u → step (to s w) Capitals p (operator_name o) ≡ goes u
-  operator-goes d w other takes o p u e = takes (to s w) Capitals p (operator_name o) ∙ ap (capital_item (to s w) d p) (called o) ∙ e
+  operator_goes : (d : Draft) (w : Awaits) (other : Token → ℕ → Outcome) → Takes d w other → (o : Operator) (p : ℕ) (u : State) → capital_item (to s w) d p (Some o) ≡ goes u → step (to s w) Capitals p (operator_name o) ≡ goes u
+  operator_goes d w other takes o p u e = takes (to s w) Capitals p (operator_name o) ∙ ap (capital_item (to s w) d p) (called o) ∙ e
 
   -- the range after a constant
-  range-always : (low high : ℕ) (first last : Word) (rest : List Word) (d : Draft) → first.kind ≡ Number low → last.kind ≡ Number high → low ≤ high → Always rest (to s (after_item (ranged d low high))) out → Always (colon ∷ first ∷ dots ∷ last ∷ rest) (to s (after_constant d)) out
+  range_always : (low high : ℕ) (first last : Word) (rest : List Word) (d : Draft) → first.kind ≡ Number low → last.kind ≡ Number high → low ≤ high → Always rest (to s (after_item (ranged d low high))) out → Always (colon ∷ first ∷ dots ∷ last ∷ rest) (to s (after_constant d)) out
   unfolding Always
-  range-always low high first last rest d f l le a = λ p1 _. (
+  range_always low high first last rest d f l le a = λ p1 _. (
     to s (low_end d),
     refl,
     λ p2 pr2. (
@@ -74,18 +74,18 @@ module _ (s : State) (out : Outline) (apart : Apart s.outline.declarations) wher
     ),
   )
 
-  pub pattern-always : (f : Form) (ws rest : List Word) (d : Draft) (w : Awaits) (other : Token → ℕ → Outcome) → Takes d w other → PatternWords s.outline.declarations f ws → within_limits (d.so_far ++ items_in f) ≡ true → Always rest (to s (after_item (grown d (items_in f)))) out → Always (ws ++ rest) (to s w) out
+  pub pattern_always : (f : Form) (ws rest : List Word) (d : Draft) (w : Awaits) (other : Token → ℕ → Outcome) → Takes d w other → PatternWords s.outline.declarations f ws → within_limits (d.so_far ++ items_in f) ≡ true → Always rest (to s (after_item (grown d (items_in f)))) out → Always (ws ++ rest) (to s w) out
   unfolding Always
-  pattern-always (name_form a) ws rest d w other takes pw fits cont =
+  pattern_always (name_form a) ws rest d w other takes pw fits cont =
       subst (λ l. Always (l ++ rest) (to s w) out) (sym pw.2) (λ p _. (
         to s (after_item (grown d (operand a ∷ []))),
         takes (to s w) Name p pw.0 ∙ ap (operand_item (to s w) d p) (found pw.0 s.outline.declarations a apart pw.1) ∙ gains (to s w) d (operand a) (λ e. after_item (part_read e)) fits,
         cont,
       ))
-  pattern-always (constant_form low high) ws rest d w other takes pw fits cont =
+  pattern_always (constant_form low high) ws rest d w other takes pw fits cont =
       let full : within_limits (d.so_far ++ constant 0 (2 ^ 32 - 1) ∷ []) ≡ true = other_range d.so_far 0 (2 ^ 32 - 1) low high ∙ fits in
       let begins : (p : ℕ) → step (to s w) Capitals p (operator_name Cnst) ≡ goes (to s (after_constant (grown d (constant 0 (2 ^ 32 - 1) ∷ [])))) =
-      λ p. operator-goes d w other takes Cnst p _ (gains (to s w) d (constant 0 (2 ^ 32 - 1)) (λ e. after_constant (part_read e)) full) in
+      λ p. operator_goes d w other takes Cnst p _ (gains (to s w) d (constant 0 (2 ^ 32 - 1)) (λ e. after_constant (part_read e)) full) in
       ⊎_elim
       (λ bare.
       let whole : constant low high ≡ constant 0 (2 ^ 32 - 1) = λ i. constant (bare.0 i) (bare.1 i) in
@@ -98,30 +98,30 @@ module _ (s : State) (out : Outline) (apart : Apart s.outline.declarations) wher
       subst (λ l. Always (l ++ rest) (to s w) out) (sym range.5) (λ p _. (
         to s (after_constant (grown d (constant 0 (2 ^ 32 - 1) ∷ []))),
         begins p,
-        range-always low high range.0 range.1 rest (grown d (constant 0 (2 ^ 32 - 1) ∷ [])) range.2 range.3 range.4
+        range_always low high range.0 range.1 rest (grown d (constant 0 (2 ^ 32 - 1) ∷ [])) range.2 range.3 range.4
             (subst (λ xs. Always rest (to s (after_item (record { left_name = d.left_name; so_far = xs; brackets = filled_one d.brackets }))) out)
             (sym (replaced d.so_far (constant 0 (2 ^ 32 - 1)) (constant low high))) cont),
       )))
       pw
-  pattern-always variable_form ws rest d w other takes pw fits cont =
+  pattern_always variable_form ws rest d w other takes pw fits cont =
       subst (λ l. Always (l ++ rest) (to s w) out) (sym pw) (λ p _. (
         to s (after_item (grown d (variable ∷ []))),
-        operator-goes d w other takes Var p _ (gains (to s w) d variable (λ e. after_item (part_read e)) fits),
+        operator_goes d w other takes Var p _ (gains (to s w) d variable (λ e. after_item (part_read e)) fits),
         cont,
       ))
-  pattern-always (one_form o f) ws rest d w other takes pw fits cont =
+  pattern_always (one_form o f) ws rest d w other takes pw fits cont =
       let part = pw.0 in
       let regrouped = append_assoc d.so_far (one_sided o ∷ []) (items_in f) in
       let within : within_limits ((d.so_far ++ one_sided o ∷ []) ++ items_in f) ≡ true = ap within_limits regrouped ∙ fits in
       subst (λ l. Always (l ++ rest) (to s w) out) (sym pw.2) (λ p _. (
         to s (opening 1 p (gained d (one_sided o))),
-        operator-goes d w other takes (One o) p _ (gains (to s w) d (one_sided o) (opening 1 p) (front_within (d.so_far ++ one_sided o ∷ []) (items_in f) within)),
+        operator_goes d w other takes (One o) p _ (gains (to s w) d (one_sided o) (opening 1 p) (front_within (d.so_far ++ one_sided o ∷ []) (items_in f) within)),
         λ q _.
             let inner : Draft = with_brackets (gained d (one_sided o)) (record { wants = 1; stands = p; filled = 0 } ∷ d.brackets) in (
               to s (first_item inner),
               refl,
               subst (λ l. Always l (to s (first_item inner)) out) (sym (append_assoc part (close_bracket ∷ []) rest))
-                  (pattern-always f part (close_bracket ∷ rest) inner (first_item inner) _ (λ u t p text. refl) pw.1 within
+                  (pattern_always f part (close_bracket ∷ rest) inner (first_item inner) _ (λ u t p text. refl) pw.1 within
                   (λ r _. (
                     to s (after_item (record { left_name = d.left_name; so_far = (d.so_far ++ one_sided o ∷ []) ++ items_in f; brackets = filled_one d.brackets })),
                     refl,
@@ -129,7 +129,7 @@ module _ (s : State) (out : Outline) (apart : Apart s.outline.declarations) wher
                   ))),
             ),
       ))
-  pattern-always (two_form o f g) ws rest d w other takes pw fits cont =
+  pattern_always (two_form o f g) ws rest d w other takes pw fits cont =
       let left = pw.0 in
       let right = pw.1 in
       let front : List Part = d.so_far ++ two_sided o ∷ [] in
@@ -139,19 +139,19 @@ module _ (s : State) (out : Outline) (apart : Apart s.outline.declarations) wher
       let first-within = front_within (front ++ items_in f) (items_in g) within in
       subst (λ l. Always (l ++ rest) (to s w) out) (sym pw.4) (λ p _. (
         to s (opening 2 p (gained d (two_sided o))),
-        operator-goes d w other takes (Two o) p _ (gains (to s w) d (two_sided o) (opening 2 p) (front_within front (items_in f) first-within)),
+        operator_goes d w other takes (Two o) p _ (gains (to s w) d (two_sided o) (opening 2 p) (front_within front (items_in f) first-within)),
         λ q _.
             let inner : Draft = with_brackets (gained d (two_sided o)) (record { wants = 2; stands = p; filled = 0 } ∷ d.brackets) in
             let second : Draft = grown inner (items_in f) in (
               to s (first_item inner),
               refl,
               subst (λ l. Always l (to s (first_item inner)) out) (sym (append_assoc left (comma ∷ (right ++ close_bracket ∷ [])) rest))
-                  (pattern-always f left (comma ∷ ((right ++ close_bracket ∷ []) ++ rest)) inner (first_item inner) _ (λ u t p text. refl) pw.2 first-within
+                  (pattern_always f left (comma ∷ ((right ++ close_bracket ∷ []) ++ rest)) inner (first_item inner) _ (λ u t p text. refl) pw.2 first-within
                   (λ r _. (
                     to s (item second),
                     refl,
                     subst (λ l. Always l (to s (item second)) out) (sym (append_assoc right (close_bracket ∷ []) rest))
-                        (pattern-always g right (close_bracket ∷ rest) second (item second) _ (λ u t p text. refl) pw.3 within
+                        (pattern_always g right (close_bracket ∷ rest) second (item second) _ (λ u t p text. refl) pw.3 within
                         (λ r _. (
                           to s (after_item (record { left_name = d.left_name; so_far = (front ++ items_in f) ++ items_in g; brackets = filled_one d.brackets })),
                           refl,

@@ -27,10 +27,10 @@ use Rattle.reader.specs.Reading.{Draft, Awaits, State, Outcome, lies, renames, o
 use Rattle.reader.specs.States.{declarations_of, stands, production_from, NumberRead}
 use Rattle.reader.specs.Soundness.{OperandIn, Fitting, MayEmit, parts_in, whole_parts}
 
-lies-is : (ns : List Nonterminal) (i : ℕ) → lies (map declaration_of ns) i ≡ place_letter ns i
-lies-is [] i = refl
-lies-is (n ∷ ns) zero = refl
-lies-is (n ∷ ns) (suc i) = lies-is ns i
+lies_is : (ns : List Nonterminal) (i : ℕ) → lies (map declaration_of ns) i ≡ place_letter ns i
+lies_is [] i = refl
+lies_is (n ∷ ns) zero = refl
+lies_is (n ∷ ns) (suc i) = lies_is ns i
 
 letter_at : (ns : List Nonterminal) (i : ℕ) (d : Nonterminal) → i < length ns → lies (map declaration_of ns) i ≡ (get_or ns i d).place.letter
 letter_at [] i d h = absurd (omega arith)
@@ -54,14 +54,14 @@ no_rename ds a (two_sided o ∷ xs) h = refl
 no_rename ds a (constant l k ∷ xs) h = refl
 no_rename ds a (variable ∷ xs) h = refl
 
-renames-is : (ns : List Nonterminal) (a : ℕ) (xs : List Item) → renames (map declaration_of ns) a (map part_of xs) ≡ chain_at_place ns a (only_operand xs)
-renames-is ns a [] = refl
-renames-is ns a (Operand b ∷ []) = ap₂ eqb (lies-is ns a) (lies-is ns b)
-renames-is ns a (Operand b ∷ x ∷ xs) = refl
-renames-is ns a (Unary o ∷ xs) = refl
-renames-is ns a (Binary o ∷ xs) = refl
-renames-is ns a (Constant i ∷ xs) = refl
-renames-is ns a (Variable ∷ xs) = refl
+renames_is : (ns : List Nonterminal) (a : ℕ) (xs : List Item) → renames (map declaration_of ns) a (map part_of xs) ≡ chain_at_place ns a (only_operand xs)
+renames_is ns a [] = refl
+renames_is ns a (Operand b ∷ []) = ap₂ eqb (lies_is ns a) (lies_is ns b)
+renames_is ns a (Operand b ∷ x ∷ xs) = refl
+renames_is ns a (Unary o ∷ xs) = refl
+renames_is ns a (Binary o ∷ xs) = refl
+renames_is ns a (Constant i ∷ xs) = refl
+renames_is ns a (Variable ∷ xs) = refl
 
 -- items and the parts that they stand for
 parts_are : (x : Item) → parts_in (part_of x) ≡ item_parts x
@@ -101,20 +101,20 @@ one_pattern xs few whole =
     (and_from _ _ (sym (ap (λ n. leb n 2) (operands_are xs)) ∙ second.0)
     (and_from _ _ (sym (ap (λ n. leb n 2) (leaves_are xs)) ∙ second.1) (sym (whole_is 1 xs) ∙ whole)))
 
-operand-fits : (n : ℕ) (x : Item) → OperandIn n (part_of x) → operand_below n x ≡ true
-operand-fits n (Operand a) h = lt-ltb a n h
-operand-fits n (Unary o) h = refl
-operand-fits n (Binary o) h = refl
-operand-fits n (Constant i) h = refl
-operand-fits n Variable h = refl
+operand_fits : (n : ℕ) (x : Item) → OperandIn n (part_of x) → operand_below n x ≡ true
+operand_fits n (Operand a) h = lt-ltb a n h
+operand_fits n (Unary o) h = refl
+operand_fits n (Binary o) h = refl
+operand_fits n (Constant i) h = refl
+operand_fits n Variable h = refl
 
 operands_fit : (n : ℕ) (xs : List Item) → All (OperandIn n) (map part_of xs) → operands_below n xs ≡ true
 operands_fit n [] h = refl
-operands_fit n (x ∷ xs) h = and_from _ _ (operand-fits n x h.0) (operands_fit n xs h.1)
+operands_fit n (x ∷ xs) h = and_from _ _ (operand_fits n x h.0) (operands_fit n xs h.1)
 
 emits_fit : (g : Progress) (w : Awaits) (r : Rule) (e : Emission) (d : Draft) → d.left_name ≡ r.left → d.so_far ≡ map part_of (items_of r.pattern) → MayEmit (stands g w).outline d (emitted e) → may_emit (names_of g.description) r e ≡ true
 emits_fit g w r Rename d left parts h =
-    sym (renames-is (names_of g.description) r.left (items_of r.pattern))
+    sym (renames_is (names_of g.description) r.left (items_of r.pattern))
     ∙ sym (ap₂ (renames (declarations_of g)) left parts) ∙ h
 emits_fit g w r (Instruction m) d left parts h = refl
 
@@ -132,8 +132,8 @@ module _ (g : Progress) (w : Awaits) (r : Rule) (d : Draft) (e : Option (List �
       let may' = subst (MayEmit (stands g w).outline d) (sym (ap (λ p. p.emits) same)) may in
       both_ways _ denied.3 (emits_fit g w r r.emission d (sym (ap (λ p. p.derives) same)) (sym (ap (λ p. p.parts) same)) may')
 
-  pub rule-gained : (after : Description) → RuleAdded g.description r after → start_of after ≡ (stands g w).outline.begins → stands (record { description = after; line_start = g.line_start }) rule_end ≡ rule_read (stands g w) d e size cycles
-  rule-gained after h start =
+  pub rule_gained : (after : Description) → RuleAdded g.description r after → start_of after ≡ (stands g w).outline.begins → stands (record { description = after; line_start = g.line_start }) rule_end ≡ rule_read (stands g w) d e size cycles
+  rule_gained after h start =
       let names = ap (map declaration_of) h.names_kept in
       let rules = ap (map production_of) h.rules_gained ∙ map_push production_of (rules_of g.description) r ∙ ap (λ p. map production_of (rules_of g.description) ++ p ∷ []) same in
       λ i. record {
@@ -154,9 +154,9 @@ upto_ok limit v t p h o =
     ∙ cond-false (ltb limit (value_in t)) (fails 6 p) o (le-ltb limit (value_in t) small)
 
 -- the last number of a rule
-pub rule-taken : (g : Progress) (d : Draft) (e : Option (List ℕ)) (size cycles : ℕ) (r : Rule) (after : Description) (t : Token) (p : ℕ) → production_of r ≡ production_from d e size cycles → RuleAdded g.description r after → (is_number t ≡ true) × (value_in t ≡ cycles) × (cycles ≤ 999) → goes (stands (record { description = after; line_start = g.line_start }) rule_end) ≡ number_upto 999 t p (goes (rule_read (stands g (cycles_number size e d)) d e size (value_in t)))
-rule-taken g d e size cycles r after t p same added h =
+pub rule_taken : (g : Progress) (d : Draft) (e : Option (List ℕ)) (size cycles : ℕ) (r : Rule) (after : Description) (t : Token) (p : ℕ) → production_of r ≡ production_from d e size cycles → RuleAdded g.description r after → (is_number t ≡ true) × (value_in t ≡ cycles) × (cycles ≤ 999) → goes (stands (record { description = after; line_start = g.line_start }) rule_end) ≡ number_upto 999 t p (goes (rule_read (stands g (cycles_number size e d)) d e size (value_in t)))
+rule_taken g d e size cycles r after t p same added h =
     let w = cycles_number size e d in
-    ap goes (rule-gained g w r d e size cycles same after added (start_same g.description after added.names_kept added.start_kept))
+    ap goes (rule_gained g w r d e size cycles same after added (start_same g.description after added.names_kept added.start_kept))
     ∙ ap (λ v. goes (rule_read (stands g w) d e size v)) (sym h.1)
     ∙ sym (upto_ok 999 cycles t p h (goes (rule_read (stands g w) d e size (value_in t))))

@@ -7,12 +7,12 @@ use Rattle.description.specs.Outlines.{Part, operand, one_sided, two_sided, cons
 use Rattle.reader.specs.Words.{is, declared_from}
 use Rattle.reader.specs.Reading.{Draft, Awaits, rule_or_end, left_colon, item, after_item, mnemonic_word, size_number, cycles_number, rule_end, State, Outcome, goes, ends, fails, to, next_line, lies, renames, left_found, rule_read}
 use Rattle.reader.specs.Grammar.{Word, name_word, line_end, colon, equals_sign, Named, items_in, EmissionWord, RuleWords, RuleLines}
-use Rattle.reader.proofs.TokenKinds.{Proper, kind-is, Fine, fine_goes, tested, passed}
+use Rattle.reader.proofs.TokenKinds.{Proper, kind_is, Fine, fine_goes, tested, passed}
 use Rattle.reader.proofs.Walks.{Leads}
 use Rattle.reader.proofs.Namings.{named}
 use Rattle.reader.proofs.LinesRead.{ruled, Closes}
-use Rattle.reader.proofs.Expected.{same_state, word-is, mark_back, Figure, figure_back}
-use Rattle.reader.proofs.PatternBack.{Parsed, pattern-back}
+use Rattle.reader.proofs.Expected.{same_state, word_is, mark_back, Figure, figure_back}
+use Rattle.reader.proofs.PatternBack.{Parsed, pattern_back}
 
 abbrev Going : Outcome → Type 0
 Going (goes s) = Unit {0}
@@ -65,7 +65,7 @@ emission_back s out d (w ∷ ws) l =
       word = w;
       rest = ws;
       ws_are = refl;
-      is_emission = word-is w Name text (kind-is Name w.kind c) refl;
+      is_emission = word_is w Name text (kind_is Name w.kind c) refl;
       onward = subst (λ x. Leads ws x out) (sym (same_state _ u e)) l.4;
     })
     (λ c.
@@ -73,14 +73,14 @@ emission_back s out d (w ∷ ws) l =
     let minus = tested (is Minus w.kind) at_sign 3 p (fine_goes _ u e) in
     let f : at_sign ≡ goes u = sym minus.1 ∙ e in
     let by = tested (renames s.outline.declarations d.left_name d.so_far) (goes (to s (size_number None d))) 8 p (fine_goes at_sign u f) in
-    let kind = kind-is Minus w.kind minus.0 in
+    let kind = kind_is Minus w.kind minus.0 in
     record {
       emits = None;
       word = w;
       rest = ws;
       ws_are = refl;
       is_emission = (
-        word-is w Minus (codes "-") kind (subst (λ t. Proper t text) kind l.2),
+        word_is w Minus (codes "-") kind (subst (λ t. Proper t text) kind l.2),
         renames_back s.outline.declarations d.left_name d.so_far by.0,
       );
       onward = subst (λ x. Leads ws x out) (sym (same_state _ u (sym by.1 ∙ f))) l.4;
@@ -113,8 +113,8 @@ record Ending (s : State) (out : Outline) (d : Draft) (ws : List Word) : Type 0 
   pub onward : Leads rest (rule_read s d emits size cycles) out
 
 module _ (s : State) (out : Outline) where
-  ending-from : (d : Draft) (ws ws1 : List Word) (e : Emission s out d ws1) (f : Figure 99 (λ v p. to s (cycles_number v e.emits d)) out e.rest) → Figure 999 (λ v p. rule_read s d e.emits f.value v) out f.rest → ws ≡ equals_sign ∷ ws1 → Ending s out d ws
-  ending-from d ws ws1 e f g is = record {
+  ending_from : (d : Draft) (ws ws1 : List Word) (e : Emission s out d ws1) (f : Figure 99 (λ v p. to s (cycles_number v e.emits d)) out e.rest) → Figure 999 (λ v p. rule_read s d e.emits f.value v) out f.rest → ws ≡ equals_sign ∷ ws1 → Ending s out d ws
+  ending_from d ws ws1 e f g is = record {
     emits = e.emits;
     size = f.value;
     cycles = g.value;
@@ -131,24 +131,24 @@ module _ (s : State) (out : Outline) where
     onward = g.onward;
   }
 
-  figures-back : (d : Draft) (ws ws1 : List Word) (e : Emission s out d ws1) → Figure 99 (λ v p. to s (cycles_number v e.emits d)) out e.rest → ws ≡ equals_sign ∷ ws1 → Ending s out d ws
-  figures-back d ws ws1 e f is =
-      ending-from d ws ws1 e f
+  figures_back : (d : Draft) (ws ws1 : List Word) (e : Emission s out d ws1) → Figure 99 (λ v p. to s (cycles_number v e.emits d)) out e.rest → ws ≡ equals_sign ∷ ws1 → Ending s out d ws
+  figures_back d ws ws1 e f is =
+      ending_from d ws ws1 e f
       (figure_back 999 f.rest (to s (cycles_number f.value e.emits d)) (λ v p. rule_read s d e.emits f.value v) out (omega arith) (λ t p text. refl) f.onward) is
 
-  emission-then : (d : Draft) (ws ws1 : List Word) → Emission s out d ws1 → ws ≡ equals_sign ∷ ws1 → Ending s out d ws
-  emission-then d ws ws1 e is =
-      figures-back d ws ws1 e
+  emission_then : (d : Draft) (ws ws1 : List Word) → Emission s out d ws1 → ws ≡ equals_sign ∷ ws1 → Ending s out d ws
+  emission_then d ws ws1 e is =
+      figures_back d ws ws1 e
       (figure_back 99 e.rest (to s (size_number e.emits d)) (λ v p. to s (cycles_number v e.emits d)) out (omega arith) (λ t p text. refl) e.onward) is
 
-  ending-back : (a : ℕ) (xs : List Part) (ws : List Word) → Leads ws (to s (after_item (record { left_name = a; so_far = xs; brackets = [] }))) out → Ending s out (record { left_name = a; so_far = xs; brackets = [] }) ws
-  ending-back a xs ws l =
+  ending_back : (a : ℕ) (xs : List Part) (ws : List Word) → Leads ws (to s (after_item (record { left_name = a; so_far = xs; brackets = [] }))) out → Ending s out (record { left_name = a; so_far = xs; brackets = [] }) ws
+  ending_back a xs ws l =
       let d : Draft = record { left_name = a; so_far = xs; brackets = [] } in
       let equal = mark_back Equals (codes "=") ws (to s (after_item d)) (λ _. to s (mnemonic_word d)) out (λ v. refl) refl (λ t h. h) (λ t p text. refl) l in
-      emission-then d ws equal.1 (emission_back s out d equal.1 equal.3) equal.2
+      emission_then d ws equal.1 (emission_back s out d equal.1 equal.3) equal.2
 
-  rule-from : (text : List ℕ) (a : ℕ) (ws ws1 : List Word) → Named s.outline.declarations a text → ws ≡ colon ∷ ws1 → (r : Parsed s out (record { left_name = a; so_far = []; brackets = [] }) ws1) → Ending s out (record { left_name = a; so_far = items_in r.form; brackets = [] }) r.rest → RuleParsed s out (name_word text ∷ ws)
-  rule-from text a ws ws1 is colons r e = record {
+  rule_from : (text : List ℕ) (a : ℕ) (ws ws1 : List Word) → Named s.outline.declarations a text → ws ≡ colon ∷ ws1 → (r : Parsed s out (record { left_name = a; so_far = []; brackets = [] }) ws1) → Ending s out (record { left_name = a; so_far = items_in r.form; brackets = [] }) r.rest → RuleParsed s out (name_word text ∷ ws)
+  rule_from text a ws ws1 is colons r e = record {
     rule = record { derives = a; parts = items_in r.form; emits = e.emits; in_bytes = e.size; in_cycles = e.cycles };
     words = name_word text ∷ colon ∷ (r.words ++ equals_sign ∷ e.emission_word ∷ e.size_word ∷ e.cycles_word ∷ []);
     rest = e.rest;
@@ -179,12 +179,12 @@ module _ (s : State) (out : Outline) where
   }
 
   -- the rule after its left name
-  pattern-rest : (text : List ℕ) (a : ℕ) (ws : List Word) → Named s.outline.declarations a text → Leads ws (to s (left_colon (record { left_name = a; so_far = []; brackets = [] }))) out → RuleParsed s out (name_word text ∷ ws)
-  pattern-rest text a ws is l =
+  pattern_rest : (text : List ℕ) (a : ℕ) (ws : List Word) → Named s.outline.declarations a text → Leads ws (to s (left_colon (record { left_name = a; so_far = []; brackets = [] }))) out → RuleParsed s out (name_word text ∷ ws)
+  pattern_rest text a ws is l =
       let start : Draft = record { left_name = a; so_far = []; brackets = [] } in
       let colons = mark_back Colon (codes ":") ws (to s (left_colon start)) (λ _. to s (item start)) out (λ v. refl) refl (λ t h. h) (λ t p text. refl) l in
-      let r = pattern-back s out (suc (length colons.1)) colons.1 start (item start) (λ t p. fails 3 p) (omega arith) (λ u t p text. refl) (λ t p f. f) colons.3 in
-      rule-from text a ws colons.1 is colons.2 r (ending-back a (items_in r.form) r.rest r.onward)
+      let r = pattern_back s out (suc (length colons.1)) colons.1 start (item start) (λ t p. fails 3 p) (omega arith) (λ u t p text. refl) (λ t p f. f) colons.3 in
+      rule_from text a ws colons.1 is colons.2 r (ending_back a (items_in r.form) r.rest r.onward)
 
 rule_back : (s : State) (out : Outline) (v : Word) (ws : List Word) → Leads (v ∷ ws) (to s rule_or_end) out → (length s.outline.productions < 128) × RuleParsed s out (v ∷ ws)
 unfolding Leads
@@ -192,12 +192,12 @@ rule_back s out v ws l =
     let p = l.0 in
     let u = l.1 in
     let by = branch_goes (is Name v.kind) (is End v.kind) (left_found s p (declared_from 0 v.spelling s.outline.declarations)) s.outline 3 p u
-    (ap (λ x. cond (is Name v.kind) x (cond (is End v.kind) (ends s.outline) (fails 3 p))) (sym (left-same (declared_from 0 v.spelling s.outline.declarations) p)) ∙ l.3) in
-    go (declared_from 0 v.spelling s.outline.declarations) refl p u by.1 (kind-is Name v.kind by.0) l.4
+    (ap (λ x. cond (is Name v.kind) x (cond (is End v.kind) (ends s.outline) (fails 3 p))) (sym (left_same (declared_from 0 v.spelling s.outline.declarations) p)) ∙ l.3) in
+    go (declared_from 0 v.spelling s.outline.declarations) refl p u by.1 (kind_is Name v.kind by.0) l.4
   where
-    left-same : (o : Option ℕ) (p : ℕ) → left_found (to s rule_or_end) p o ≡ left_found s p o
-    left-same None p = refl
-    left-same (Some a) p = refl
+    left_same : (o : Option ℕ) (p : ℕ) → left_found (to s rule_or_end) p o ≡ left_found s p o
+    left_same None p = refl
+    left_same (Some a) p = refl
 
     go : (o : Option ℕ) → declared_from 0 v.spelling s.outline.declarations ≡ o → (p : ℕ) (u : State) → left_found s p o ≡ goes u → v.kind ≡ Name → Leads ws u out → (length s.outline.productions < 128) × RuleParsed s out (v ∷ ws)
     go None is p u e kind on = absurd (going (fails 4 p) u e)
@@ -205,8 +205,8 @@ rule_back s out v ws l =
         let start : Draft = record { left_name = a; so_far = []; brackets = [] } in
         let by = passed (leb 128 (length s.outline.productions)) (goes (to s (left_colon start))) 7 s.line (fine_goes _ u e) in (
           leb-false 128 (length s.outline.productions) by.0,
-          subst (λ x. RuleParsed s out (x ∷ ws)) (sym (word-is v Name v.spelling kind refl))
-              (pattern-rest s out v.spelling a ws (named v.spelling s.outline.declarations a is)
+          subst (λ x. RuleParsed s out (x ∷ ws)) (sym (word_is v Name v.spelling kind refl))
+              (pattern_rest s out v.spelling a ws (named v.spelling s.outline.declarations a is)
               (subst (λ x. Leads ws x out) (sym (same_state (to s (left_colon start)) u (sym by.1 ∙ e))) on)),
         )
 
@@ -252,8 +252,8 @@ lines_back (suc n) (v ∷ ws) s w out short closes few l =
     let p = l.0 in
     let u = l.1 in
     let by = branch_goes (is LineEnd v.kind) (is End v.kind) (goes (next_line s p rule_or_end)) s.outline 3 p u (sym (closes (to s w) v.kind p v.spelling) ∙ l.3) in
-    let kind = kind-is LineEnd v.kind by.0 in
-    let is : v ≡ line_end = word-is v LineEnd (10 ∷ []) kind (subst (λ t. Proper t v.spelling) kind l.2) in
+    let kind = kind_is LineEnd v.kind by.0 in
+    let is : v ≡ line_end = word_is v LineEnd (10 ∷ []) kind (subst (λ t. Proper t v.spelling) kind l.2) in
     subst (λ x. LinesParsed s out (x ∷ ws)) (sym is)
     (go ws p (omega arith) (subst (λ x. Leads ws x out) (sym (same_state (next_line s p rule_or_end) u by.1)) l.4) (lines_back n))
   where

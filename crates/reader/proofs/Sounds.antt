@@ -61,8 +61,8 @@ few_outer (b ∷ bs) xs l h = laid_few bs l.0 l.6 (omega (arith, ap length l.3, 
 few_items : (xs : List Part) → within_limits xs ≡ true → length xs ≤ 7
 few_items xs e = leb-true (length xs) 7 (and_parts (leb (length xs) 7) _ e).0
 
-constant-after : (bs : List Bracket) (xs : List Part) → LaidConstant bs xs → LaidAfter bs xs
-constant-after bs xs l =
+constant_after : (bs : List Bracket) (xs : List Part) → LaidConstant bs xs → LaidAfter bs xs
+constant_after bs xs l =
     let c = constant l.1 l.2 in
     subst (λ cs. LaidAfter cs xs) (sym l.4.1)
     (subst (LaidAfter (filled_one l.4.0)) (sym l.3) (part_added l.4.0 l.0 (c ∷ []) l.4.2 refl))
@@ -71,18 +71,18 @@ constant-after bs xs l =
 pub few_at_item : (o : Outline) (d : Draft) → Fitting o d → Laid d.brackets d.so_far → few_filled d.brackets
 few_at_item o d f l = laid_few d.brackets d.so_far l (few_items d.so_far f.limits)
 
-pub few-after_item : (o : Outline) (d : Draft) → Fitting o d → LaidAfter d.brackets d.so_far → few_filled (drop 1 d.brackets)
-few-after_item o d f l = few_outer d.brackets d.so_far l (few_items d.so_far f.limits)
+pub few_after_item : (o : Outline) (d : Draft) → Fitting o d → LaidAfter d.brackets d.so_far → few_filled (drop 1 d.brackets)
+few_after_item o d f l = few_outer d.brackets d.so_far l (few_items d.so_far f.limits)
 
-pub few-after_constant : (o : Outline) (d : Draft) → Fitting o d → LaidConstant d.brackets d.so_far → few_filled (drop 1 d.brackets)
-few-after_constant o d f l = few-after_item o d f (constant-after d.brackets d.so_far l)
+pub few_after_constant : (o : Outline) (d : Draft) → Fitting o d → LaidConstant d.brackets d.so_far → few_filled (drop 1 d.brackets)
+few_after_constant o d f l = few_after_item o d f (constant_after d.brackets d.so_far l)
 
 pub room_at_opening : (o : Outline) (n : ℕ) (d : Draft) → Fitting o d → LaidBefore n d.brackets d.so_far → length d.brackets < 7
 room_at_opening o n d f l =
     omega (arith, few_items d.so_far f.limits, laid_count d.brackets l.0 l.4, ap length l.2, length_push l.0 l.1)
 
-pub constant-last : (bs : List Bracket) (xs : List Part) → LaidConstant bs xs → EndsInConstant xs
-constant-last bs xs l = (l.0, l.1, l.2, l.3)
+pub constant_last : (bs : List Bracket) (xs : List Part) → LaidConstant bs xs → EndsInConstant xs
+constant_last bs xs l = (l.0, l.1, l.2, l.3)
 
 -- drafts
 refit : (o : Outline) (d : Draft) (bs : List Bracket) → Fitting o d → Fitting o (with_brackets d bs)
@@ -124,22 +124,22 @@ module _ (s : State) (d : Draft) (f : Fitting s.outline d) (l : Laid d.brackets 
       gain_sound s d (operand a) (λ e. after_item (part_read e)) f (found_below s t a e)
       (λ g. (refit _ _ _ g, part_added d.brackets d.so_far (operand a ∷ []) l refl))
 
-  capital-sound : (p : ℕ) (o : Option Operator) → SoundAfter (capital_item s d p o)
-  capital-sound p None = tt
-  capital-sound p (Some Cnst) =
+  capital_sound : (p : ℕ) (o : Option Operator) → SoundAfter (capital_item s d p o)
+  capital_sound p None = tt
+  capital_sound p (Some Cnst) =
       gain_sound s d (constant 0 (2 ^ 32 - 1)) (λ e. after_constant (part_read e)) f tt
       (λ g. (refit _ _ _ g, (d.so_far, 0, 2 ^ 32 - 1, refl, (d.brackets, refl, l))))
-  capital-sound p (Some Var) =
+  capital_sound p (Some Var) =
       gain_sound s d variable (λ e. after_item (part_read e)) f tt
       (λ g. (refit _ _ _ g, part_added d.brackets d.so_far (variable ∷ []) l refl))
-  capital-sound p (Some (One o)) = gain_sound s d (one_sided o) (opening 1 p) f tt (λ g. (g, (d.so_far, one_sided o, refl, refl, l)))
-  capital-sound p (Some (Two o)) = gain_sound s d (two_sided o) (opening 2 p) f tt (λ g. (g, (d.so_far, two_sided o, refl, refl, l)))
+  capital_sound p (Some (One o)) = gain_sound s d (one_sided o) (opening 1 p) f tt (λ g. (g, (d.so_far, one_sided o, refl, refl, l)))
+  capital_sound p (Some (Two o)) = gain_sound s d (two_sided o) (opening 2 p) f tt (λ g. (g, (d.so_far, two_sided o, refl, refl, l)))
 
-  any-sound : (t : Token) (p : ℕ) (text : List ℕ) (other : Outcome) → SoundAfter other → SoundAfter (any_item s d t p text other)
-  any-sound t p text other h =
+  any_sound : (t : Token) (p : ℕ) (text : List ℕ) (other : Outcome) → SoundAfter other → SoundAfter (any_item s d t p text other)
+  any_sound t p text other h =
       cond_both (is Name t) (operand_item s d p (declared s text)) (cond (is Capitals t) (capital_item s d p (operator_called text)) other) SoundAfter
       (λ _. operand_sound p text (declared s text) refl)
-      (λ _. cond_both (is Capitals t) (capital_item s d p (operator_called text)) other SoundAfter (λ _. capital-sound p (operator_called text)) (λ _. h))
+      (λ _. cond_both (is Capitals t) (capital_item s d p (operator_called text)) other SoundAfter (λ _. capital_sound p (operator_called text)) (λ _. h))
 
 no_parts_sound : (bs : List Bracket) (p : ℕ) → SoundAfter (no_parts bs p)
 no_parts_sound [] p = tt
@@ -231,16 +231,16 @@ sound_at rule_or_end s t p text h =
     (λ _. left_sound s p text (declared s text) refl) (λ _. cond_both (is End t) (ends s.outline) (fails 3 p) SoundAfter (λ _. tt) (λ _. tt))
 sound_at (left_colon d) s t p text h = cond_both (is Colon t) (goes (to s (item d))) (fails 3 p) SoundAfter (λ _. h) (λ _. tt)
 sound_at (first_item d) s t p text h =
-    any-sound s d h.0 h.1 t p text (cond (is Close t) (no_parts d.brackets p) (fails 3 p))
+    any_sound s d h.0 h.1 t p text (cond (is Close t) (no_parts d.brackets p) (fails 3 p))
     (cond_both (is Close t) (no_parts d.brackets p) (fails 3 p) SoundAfter (λ _. no_parts_sound d.brackets p) (λ _. tt))
-sound_at (item d) s t p text h = any-sound s d h.0 h.1 t p text (fails 3 p) tt
+sound_at (item d) s t p text h = any_sound s d h.0 h.1 t p text (fails 3 p) tt
 sound_at (opening n q d) s t p text h =
     cond_both (is Open t) (goes (to s (first_item (with_brackets d (record { wants = n; stands = q; filled = 0 } ∷ d.brackets))))) (fails 3 p) SoundAfter
     (λ _. (refit _ d _ h.0, (h.1.0, h.1.1, [], h.1.2, h.1.3, refl, h.1.4))) (λ _. tt)
 sound_at (after_item d) s t p text h = done_sound s d d.brackets t p refl h.0 h.1
 sound_at (after_constant d) s t p text h =
     cond_both (is Colon t) (goes (to s (low_end d))) (item_done s d d.brackets t p) SoundAfter (λ _. h)
-    (λ _. done_sound s d d.brackets t p refl h.0 (constant-after d.brackets d.so_far h.1))
+    (λ _. done_sound s d d.brackets t p refl h.0 (constant_after d.brackets d.so_far h.1))
 sound_at (low_end d) s t p text h = upto_sound (2 ^ 32 - 1) t p (goes (to s (two_dots (value_in t) p d))) (λ _. h)
 sound_at (two_dots low q d) s t p text h = cond_both (is Dots t) (goes (to s (high_end low q d))) (fails 3 p) SoundAfter (λ _. h) (λ _. tt)
 sound_at (high_end low q d) s t p text h =
@@ -249,7 +249,7 @@ sound_at (high_end low q d) s t p text h =
     (λ _.
     cond_both (ltb (value_in t) low) (fails 6 q) after SoundAfter (λ _. tt)
     (λ _. (
-      ranged_fit s.outline d low (value_in t) h.0 (constant-last d.brackets d.so_far h.1),
+      ranged_fit s.outline d low (value_in t) h.0 (constant_last d.brackets d.so_far h.1),
       ranged_laid d.brackets d.so_far low (value_in t) h.1,
     )))
 sound_at (mnemonic_word d) s t p text h =

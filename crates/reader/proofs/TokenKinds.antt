@@ -30,8 +30,8 @@ rebuilt_same Equals = refl
 rebuilt_same Minus = refl
 rebuilt_same End = refl
 
-pub kind-is : (k t : Token) → is k t ≡ true → t ≡ rebuilt (kind_number k) (value_in t)
-kind-is k t e = sym (rebuilt_same t) ∙ ap (λ n. rebuilt n (value_in t)) (eqb-true (kind_number t) (kind_number k) e)
+pub kind_is : (k t : Token) → is k t ≡ true → t ≡ rebuilt (kind_number k) (value_in t)
+kind_is k t e = sym (rebuilt_same t) ∙ ap (λ n. rebuilt n (value_in t)) (eqb-true (kind_number t) (kind_number k) e)
 
 -- an outcome that goes on or ends was not told by a fault
 abbrev pub Fine : Outcome → Type 0
@@ -59,7 +59,7 @@ number_read limit t p x small f =
     let number = tested (is_number t) (cond (ltb limit (value_in t)) (fails 6 p) x) 3 p f in
     let below = passed (ltb limit (value_in t)) x 6 p (subst Fine number.1 f) in
     let low = ltb-false limit (value_in t) below.0 in (
-      ⊎_elim (λ e. kind-is (Number 0) t e) (λ e. absurd (huge t (kind-is HugeNumber t e) low)) (or_cases (is (Number 0) t) (is HugeNumber t) number.0),
+      ⊎_elim (λ e. kind_is (Number 0) t e) (λ e. absurd (huge t (kind_is HugeNumber t e) low)) (or_cases (is (Number 0) t) (is HugeNumber t) number.0),
       low,
       number.1 ∙ below.1,
     )

@@ -9,7 +9,7 @@ use Rattle.lexer.specs.Bytes.{is_lower, is_capital, is_lower_or_digit}
 use Rattle.lexer.specs.Tokens.{token_at, lexical_place}
 use Rattle.lexer.specs.Meanings.{RunOf, Denotes}
 use Rattle.lexer.specs.Tilings.{is_end}
-use Rattle.lexer.proofs.Standing.{stands-where-read}
+use Rattle.lexer.proofs.Standing.{stands_where_read}
 use Rattle.lexer.proofs.Tiled.{reading_goes_on}
 use Rattle.pattern.specs.Names.{all_plain, short_name}
 use Rattle.description.specs.declared.descriptions.Description.{Description}
@@ -31,48 +31,48 @@ module _ (bs : List ℕ) (o : ℕ) (s : State) (f : ℕ) where
   pub goes_on : (t : Token) (p n : ℕ) → token_at bs o ≡ Ok (t, (p, n)) → (next : State) → goes next ≡ step s t p (take n (drop p bs)) → read_from f bs (p + n) next ≡ read_from (suc f) bs o s
   goes_on t p n e next same = after t p n e (goes next) same
 
-  pub ends-here : (t : Token) (p n : ℕ) → token_at bs o ≡ Ok (t, (p, n)) → (x : Outline) → ends x ≡ step s t p (take n (drop p bs)) → Ok x ≡ read_from (suc f) bs o s
-  ends-here t p n e x same = after t p n e (ends x) same
+  pub ends_here : (t : Token) (p n : ℕ) → token_at bs o ≡ Ok (t, (p, n)) → (x : Outline) → ends x ≡ step s t p (take n (drop p bs)) → Ok x ≡ read_from (suc f) bs o s
+  ends_here t p n e x same = after t p n e (ends x) same
 
-  pub fails-here : (t : Token) (p n : ℕ) → token_at bs o ≡ Ok (t, (p, n)) → (k q : ℕ) → fails k q ≡ step s t p (take n (drop p bs)) → Err (k, q) ≡ read_from (suc f) bs o s
-  fails-here t p n e k q same = after t p n e (fails k q) same
+  pub fails_here : (t : Token) (p n : ℕ) → token_at bs o ≡ Ok (t, (p, n)) → (k q : ℕ) → fails k q ≡ step s t p (take n (drop p bs)) → Err (k, q) ≡ read_from (suc f) bs o s
+  fails_here t p n e k q same = after t p n e (fails k q) same
 
-  pub no-token : (x : LexicalFault) → token_at bs o ≡ Err x → Err (3, lexical_place x) ≡ read_from (suc f) bs o s
-  no-token x e = told (Err x) e
+  pub no_token : (x : LexicalFault) → token_at bs o ≡ Err x → Err (3, lexical_place x) ≡ read_from (suc f) bs o s
+  no_token x e = told (Err x) e
 
 -- nothing goes on after the text's end
 ended_in : (s : State) (d : Draft) (bs : List Bracket) (p : ℕ) (next : State) → goes next ≡ item_done s d bs End p → ⊥
 ended_in s d [] p next e = let z : ◌≡◌ {A = ℕ} 0 1 = cc in omega arith
 ended_in s d (b ∷ bs) p next e = let z : ◌≡◌ {A = ℕ} 0 1 = cc in omega arith
 
-goes-fails : (s : State) (k p : ℕ) → goes s ≡ fails k p → ⊥
-goes-fails s k p e = let z : ◌≡◌ {A = ℕ} 0 1 = cc in omega arith
+goes_fails : (s : State) (k p : ℕ) → goes s ≡ fails k p → ⊥
+goes_fails s k p e = let z : ◌≡◌ {A = ℕ} 0 1 = cc in omega arith
 
-goes-ends : (s : State) (o : Outline) → goes s ≡ ends o → ⊥
-goes-ends s o e = let z : ◌≡◌ {A = ℕ} 0 1 = cc in omega arith
+goes_ends : (s : State) (o : Outline) → goes s ≡ ends o → ⊥
+goes_ends s o e = let z : ◌≡◌ {A = ℕ} 0 1 = cc in omega arith
 
 ended : (w : Awaits) (s : State) (p : ℕ) (text : List ℕ) (next : State) → goes next ≡ step_at w s End p text → ⊥
-ended header_end s p text next e = goes-fails next 3 p e
-ended directive s p text next e = goes-fails next 3 p e
-ended new_name s p text next e = goes-fails next 3 p e
-ended (name_place t) s p text next e = goes-fails next 3 p e
-ended declaration_end s p text next e = goes-fails next 3 p e
-ended start_name s p text next e = goes-fails next 3 p e
-ended start_end s p text next e = goes-ends next s.outline e
-ended rule_or_end s p text next e = goes-ends next s.outline e
-ended (left_colon d) s p text next e = goes-fails next 3 p e
-ended (first_item d) s p text next e = goes-fails next 3 p e
-ended (item d) s p text next e = goes-fails next 3 p e
-ended (opening n q d) s p text next e = goes-fails next 3 p e
+ended header_end s p text next e = goes_fails next 3 p e
+ended directive s p text next e = goes_fails next 3 p e
+ended new_name s p text next e = goes_fails next 3 p e
+ended (name_place t) s p text next e = goes_fails next 3 p e
+ended declaration_end s p text next e = goes_fails next 3 p e
+ended start_name s p text next e = goes_fails next 3 p e
+ended start_end s p text next e = goes_ends next s.outline e
+ended rule_or_end s p text next e = goes_ends next s.outline e
+ended (left_colon d) s p text next e = goes_fails next 3 p e
+ended (first_item d) s p text next e = goes_fails next 3 p e
+ended (item d) s p text next e = goes_fails next 3 p e
+ended (opening n q d) s p text next e = goes_fails next 3 p e
 ended (after_item d) s p text next e = ended_in s d d.brackets p next e
 ended (after_constant d) s p text next e = ended_in s d d.brackets p next e
-ended (low_end d) s p text next e = goes-fails next 3 p e
-ended (two_dots l q d) s p text next e = goes-fails next 3 p e
-ended (high_end l q d) s p text next e = goes-fails next 3 p e
-ended (mnemonic_word d) s p text next e = goes-fails next 3 p e
-ended (size_number m d) s p text next e = goes-fails next 3 p e
-ended (cycles_number n m d) s p text next e = goes-fails next 3 p e
-ended rule_end s p text next e = goes-ends next s.outline e
+ended (low_end d) s p text next e = goes_fails next 3 p e
+ended (two_dots l q d) s p text next e = goes_fails next 3 p e
+ended (high_end l q d) s p text next e = goes_fails next 3 p e
+ended (mnemonic_word d) s p text next e = goes_fails next 3 p e
+ended (size_number m d) s p text next e = goes_fails next 3 p e
+ended (cycles_number n m d) s p text next e = goes_fails next 3 p e
+ended rule_end s p text next e = goes_ends next s.outline e
 
 not_end : (s : State) (t : Token) (p : ℕ) (text : List ℕ) (next : State) → goes next ≡ step s t p text → is_end t ≡ false
 not_end s LineEnd p text next e = refl
@@ -128,11 +128,11 @@ spelled Minus bs n d = refl
 spelled End bs n d = refl
 
 pub token_spelled : (bs : List ℕ) (o : ℕ) (t : Token) (p n : ℕ) → o ≤ length bs → token_at bs o ≡ Ok (t, (p, n)) → well_spelled t (take n (drop p bs)) ≡ true
-token_spelled bs o t p n h e = spelled t (drop p bs) n (stands-where-read bs o h t p n e).denotes
+token_spelled bs o t p n h e = spelled t (drop p bs) n (stands_where_read bs o h t p n e).denotes
 
 pub token_inside : (bs : List ℕ) (o : ℕ) (t : Token) (p n : ℕ) → o ≤ length bs → token_at bs o ≡ Ok (t, (p, n)) → (o ≤ p) × (p + n ≤ length bs)
 token_inside bs o t p n h e =
-    let there = stands-where-read bs o h t p n e in
+    let there = stands_where_read bs o h t p n e in
     (there.spaces.0, there.inside)
 
 pub same_slice : (bs cs : List ℕ) (p n : ℕ) → cs ≡ bs → take (p + n - p) (drop p cs) ≡ take n (drop p bs)
@@ -148,21 +148,21 @@ nothing_stands d names rules = λ i. record {
   awaits = header_end;
 }
 
-pub reading-starts : (bs : List ℕ) (o : ℕ) (s : State) → 0 < o → o ≤ length bs → s ≡ nothing_read → read_from (suc (length bs - 1)) bs o s ≡ read_from (length bs) bs o nothing_read
-reading-starts bs o s h l e =
+pub reading_starts : (bs : List ℕ) (o : ℕ) (s : State) → 0 < o → o ≤ length bs → s ≡ nothing_read → read_from (suc (length bs - 1)) bs o s ≡ read_from (length bs) bs o nothing_read
+reading_starts bs o s h l e =
     let back : suc (length bs - 1) ≡ length bs = omega arith in
     λ i. read_from (back i) bs o (e i)
 
 -- a token at o is t at p, n long; the text is then cs, the offset q
 module _ (bs : List ℕ) (o : ℕ) (t : Token) (p n : ℕ) (cs : List ℕ) (q : ℕ) (h : o ≤ length bs) (e : token_at bs o ≡ Ok (t, (p, n))) (text : cs ≡ bs) (moved : q ≡ p + n) (s next : State) (same : goes next ≡ step s t p (take n (drop p bs))) where
-  pub turn-falls : length cs - q < length bs - o
-  turn-falls =
+  pub turn_falls : length cs - q < length bs - o
+  turn_falls =
       let on = token_takes bs o s t p n (take n (drop p bs)) next h e same in
       omega (arith, on.0, on.1, ap length text)
 
-  pub turn-again : (turns : ℕ) (answer : Answer) → length bs - o ≤ turns → read_from (suc turns) bs o s ≡ answer → Sound s → (more : ℕ) × (length cs - q ≤ more) × (read_from (suc more) cs q next ≡ answer) × Sound next
-  turn-again turns answer few is sound =
-      let falls = turn-falls in
+  pub turn_again : (turns : ℕ) (answer : Answer) → length bs - o ≤ turns → read_from (suc turns) bs o s ≡ answer → Sound s → (more : ℕ) × (length cs - q ≤ more) × (read_from (suc more) cs q next ≡ answer) × Sound next
+  turn_again turns answer few is sound =
+      let falls = turn_falls in
       let back : suc (turns - 1) ≡ turns = omega arith in (
         turns - 1,
         omega arith,

@@ -15,13 +15,13 @@ use Rattle.lexer.specs.Tokens.{token_at, lexical_place}
 use Rattle.lexer.specs.Tilings.{is_end}
 use Rattle.lexer.specs.Meanings.{Denotes, SpacesOnly, NextIs}
 use Rattle.lexer.proofs.Denoted.{denoted_some}
-use Rattle.lexer.proofs.Standing.{stands-where-read, read-where-stands}
+use Rattle.lexer.proofs.Standing.{stands_where_read, read_where_stands}
 use Rattle.lexer.proofs.Tiled.{end_is_last}
 use Rattle.description.specs.Outlines.{Part, operand, one_sided, two_sided, constant, variable, Outline}
 use Rattle.reader.specs.Words.{is, is_number, value_in, operator_called}
 use Rattle.reader.specs.Reading.{Bracket, Draft, Awaits, header_end, directive, new_name, name_place, declaration_end, start_name, start_end, rule_or_end, left_colon, first_item, item, opening, after_item, after_constant, low_end, two_dots, high_end, mnemonic_word, size_number, cycles_number, rule_end, State, Outcome, goes, ends, fails, within_limits, part_read, renames, gain, declared, operand_item, capital_item, any_item, no_parts, item_done, number_upto, left_found, start_found, step_at, step, Answer, carried, with_token, read_from}
 use Rattle.reader.specs.Grammar.{Word, Spaced}
-use Rattle.reader.proofs.TokenKinds.{Proper, proper, kind-is}
+use Rattle.reader.proofs.TokenKinds.{Proper, proper, kind_is}
 
 -- the words lead from the state to the description, wherever they stand
 unfoldable pub Always : List Word → State → Outline → Type 0
@@ -60,8 +60,8 @@ not_ended t f = go (is_end t) refl
 
 -- what stands after an offset, word by word
 module _ (bs : List ℕ) (o : ℕ) (h : o ≤ length bs) where
-  spaces-stand : (spaces rest : List ℕ) → drop o bs ≡ spaces ++ rest → All (λ b. b ≡ 32) spaces → SpacesOnly bs o (o + length spaces)
-  spaces-stand spaces rest e a = (
+  spaces_stand : (spaces rest : List ℕ) → drop o bs ≡ spaces ++ rest → All (λ b. b ≡ 32) spaces → SpacesOnly bs o (o + length spaces)
+  spaces_stand spaces rest e a = (
     omega arith,
     λ k low high.
         let j : o + (k - o) ≡ k = omega arith in
@@ -70,30 +70,30 @@ module _ (bs : List ℕ) (o : ℕ) (h : o ≤ length bs) where
         ∙ get_or_append_left spaces rest 0 (k - o) short ∙ All-get_or (λ b. b ≡ 32) spaces (k - o) 0 short a,
   )
 
-  length-after : (xs : List ℕ) → drop o bs ≡ xs → o + length xs ≡ length bs
-  length-after xs e = omega (arith, ap length e, length-drop o bs)
+  length_after : (xs : List ℕ) → drop o bs ≡ xs → o + length xs ≡ length bs
+  length_after xs e = omega (arith, ap length e, length-drop o bs)
 
   after_front : (front rest : List ℕ) → drop o bs ≡ front ++ rest → drop (o + length front) bs ≡ rest
   after_front front rest e = sym (drop-drop (length front) o bs) ∙ ap (drop (length front)) e ∙ drop_at front rest (length front) refl
 
-  end-stands : All (λ b. b ≡ 32) (drop o bs) → token_at bs o ≡ Ok (End, (length bs, 0))
-  end-stands a =
-      read-where-stands bs o h End (length bs) 0 (record {
-        spaces = subst (SpacesOnly bs o) (length-after (drop o bs) refl) (spaces-stand (drop o bs) [] (sym (append-nil-is (drop o bs))) a);
+  end_stands : All (λ b. b ≡ 32) (drop o bs) → token_at bs o ≡ Ok (End, (length bs, 0))
+  end_stands a =
+      read_where_stands bs o h End (length bs) 0 (record {
+        spaces = subst (SpacesOnly bs o) (length_after (drop o bs) refl) (spaces_stand (drop o bs) [] (sym (append_nil_is (drop o bs))) a);
         inside = omega arith;
         denotes = (drop_all (length bs) bs (omega arith), refl);
       })
     where
-      append-nil-is : (xs : List ℕ) → xs ++ [] ≡ xs
-      append-nil-is [] = refl
-      append-nil-is (x ∷ xs) = ap (λ ys. x ∷ ys) (append-nil-is xs)
+      append_nil_is : (xs : List ℕ) → xs ++ [] ≡ xs
+      append_nil_is [] = refl
+      append_nil_is (x ∷ xs) = ap (λ ys. x ∷ ys) (append_nil_is xs)
 
   word_stands : (k : Token) (spaces spelling rest : List ℕ) → drop o bs ≡ spaces ++ (spelling ++ rest) → All (λ b. b ≡ 32) spaces → Denotes k (spelling ++ rest) (length spelling) → token_at bs o ≡ Ok (k, (o + length spaces, length spelling))
   word_stands k spaces spelling rest e a d =
       let there = after_front spaces (spelling ++ rest) e in
-      read-where-stands bs o h k (o + length spaces) (length spelling) (record {
-        spaces = spaces-stand spaces (spelling ++ rest) e a;
-        inside = omega (arith, length-after (spaces ++ (spelling ++ rest)) e, length-append spaces (spelling ++ rest), length-append spelling rest);
+      read_where_stands bs o h k (o + length spaces) (length spelling) (record {
+        spaces = spaces_stand spaces (spelling ++ rest) e a;
+        inside = omega (arith, length_after (spaces ++ (spelling ++ rest)) e, length-append spaces (spelling ++ rest), length-append spelling rest);
         denotes = subst (λ l. Denotes k l (length spelling)) (sym there) d;
       })
 
@@ -101,7 +101,7 @@ pub always_read : (turns : ℕ) (ws : List Word) (bs : List ℕ) (o : ℕ) (s : 
 unfolding Always
 always_read zero ws bs o s out h few sp a = absurd (omega arith)
 always_read (suc turns) [] bs o s out h few sp a =
-    ap (λ r. with_token bs s r (λ next after. read_from turns bs next after)) (end-stands bs o h sp)
+    ap (λ r. with_token bs s r (λ next after. read_from turns bs next after)) (end_stands bs o h sp)
     ∙ ap (λ x. carried x (read_from turns bs (length bs + 0))) (a (length bs) (take 0 (drop (length bs) bs)))
 always_read (suc turns) (w ∷ ws) bs o s out h few sp a =
     let spaces = sp.0 in
@@ -109,7 +109,7 @@ always_read (suc turns) (w ∷ ws) bs o s out h few sp a =
     let p = o + length spaces in
     let n = length w.spelling in
     let there : drop p bs ≡ w.spelling ++ rest = after_front bs o h spaces (w.spelling ++ rest) sp.2 in
-    let whole : o + length (spaces ++ (w.spelling ++ rest)) ≡ length bs = length-after bs o h _ sp.2 in
+    let whole : o + length (spaces ++ (w.spelling ++ rest)) ≡ length bs = length_after bs o h _ sp.2 in
     let inside : p + n ≤ length bs = omega (arith, length-append spaces (w.spelling ++ rest), length-append w.spelling rest) in
     let text : take n (drop p bs) ≡ w.spelling = ap (take n) there ∙ take_at w.spelling rest n refl in
     let on = a p (proper w.kind w.spelling rest sp.4) in
@@ -167,72 +167,72 @@ each true f g = f
 each false f g = g
 
 module _ (s : State) (t : Token) (p : ℕ) (text : List ℕ) where
-  number-continues : (limit : ℕ) (x : Outcome) → Continues x → Continues (number_upto limit t p x)
-  number-continues limit x h = each (is_number t) (each (ltb limit (value_in t)) off h) off
+  number_continues : (limit : ℕ) (x : Outcome) → Continues x → Continues (number_upto limit t p x)
+  number_continues limit x h = each (is_number t) (each (ltb limit (value_in t)) off h) off
 
-  gain-continues : (d : Draft) (x : Part) (w : Draft → Awaits) → Continues (gain s d x w)
-  gain-continues d x w = each (within_limits (d.so_far ++ x ∷ [])) on off
+  gain_continues : (d : Draft) (x : Part) (w : Draft → Awaits) → Continues (gain s d x w)
+  gain_continues d x w = each (within_limits (d.so_far ++ x ∷ [])) on off
 
-  operand-continues : (d : Draft) (o : Option ℕ) → Continues (operand_item s d p o)
-  operand-continues d None = off
-  operand-continues d (Some a) = gain-continues d (operand a) (λ e. after_item (part_read e))
+  operand_continues : (d : Draft) (o : Option ℕ) → Continues (operand_item s d p o)
+  operand_continues d None = off
+  operand_continues d (Some a) = gain_continues d (operand a) (λ e. after_item (part_read e))
 
-  capital-continues : (d : Draft) (o : Option Operator) → Continues (capital_item s d p o)
-  capital-continues d None = off
-  capital-continues d (Some Cnst) = gain-continues d (constant 0 (2 ^ 32 - 1)) (λ e. after_constant (part_read e))
-  capital-continues d (Some Var) = gain-continues d variable (λ e. after_item (part_read e))
-  capital-continues d (Some (One o)) = gain-continues d (one_sided o) (opening 1 p)
-  capital-continues d (Some (Two o)) = gain-continues d (two_sided o) (opening 2 p)
+  capital_continues : (d : Draft) (o : Option Operator) → Continues (capital_item s d p o)
+  capital_continues d None = off
+  capital_continues d (Some Cnst) = gain_continues d (constant 0 (2 ^ 32 - 1)) (λ e. after_constant (part_read e))
+  capital_continues d (Some Var) = gain_continues d variable (λ e. after_item (part_read e))
+  capital_continues d (Some (One o)) = gain_continues d (one_sided o) (opening 1 p)
+  capital_continues d (Some (Two o)) = gain_continues d (two_sided o) (opening 2 p)
 
-  any-continues : (d : Draft) (other : Outcome) → Continues other → Continues (any_item s d t p text other)
-  any-continues d other g = each (is Name t) (operand-continues d (declared s text)) (each (is Capitals t) (capital-continues d (operator_called text)) g)
+  any_continues : (d : Draft) (other : Outcome) → Continues other → Continues (any_item s d t p text other)
+  any_continues d other g = each (is Name t) (operand_continues d (declared s text)) (each (is Capitals t) (capital_continues d (operator_called text)) g)
 
-  none-continues : (bs : List Bracket) → Continues (no_parts bs p)
-  none-continues [] = off
-  none-continues (b ∷ bs) = off
+  none_continues : (bs : List Bracket) → Continues (no_parts bs p)
+  none_continues [] = off
+  none_continues (b ∷ bs) = off
 
-  done-continues : (d : Draft) (bs : List Bracket) → Continues (item_done s d bs t p)
-  done-continues d [] = each (is Equals t) on off
-  done-continues d (b ∷ bs) =
+  done_continues : (d : Draft) (bs : List Bracket) → Continues (item_done s d bs t p)
+  done_continues d [] = each (is Equals t) on off
+  done_continues d (b ∷ bs) =
       each (is Comma t) (each (eqb b.filled 1) on off) (each (is Close t) (each (eqb b.filled b.wants) on off) off)
 
-  start-continues : (o : Option ℕ) → Continues (start_found s p o)
-  start-continues None = off
-  start-continues (Some i) = on
+  start_continues : (o : Option ℕ) → Continues (start_found s p o)
+  start_continues None = off
+  start_continues (Some i) = on
 
-  left-continues : (o : Option ℕ) → Continues (left_found s p o)
-  left-continues None = off
-  left-continues (Some i) = each (leb 128 (length s.outline.productions)) off on
+  left_continues : (o : Option ℕ) → Continues (left_found s p o)
+  left_continues None = off
+  left_continues (Some i) = each (leb 128 (length s.outline.productions)) off on
 
-  unless-end : (x y : Outcome) → is_end t ≡ false → Continues y → Continues (cond (is End t) x y)
-  unless-end x y e g = cond_both (is End t) x y Continues (λ k. absurd (both_ways (is_end t) e (ap is_end (kind-is End t k)))) (λ _. g)
+  unless_end : (x y : Outcome) → is_end t ≡ false → Continues y → Continues (cond (is End t) x y)
+  unless_end x y e g = cond_both (is End t) x y Continues (λ k. absurd (both_ways (is_end t) e (ap is_end (kind_is End t k)))) (λ _. g)
 
-  step-continues : (w : Awaits) → is_end t ≡ false → Continues (step_at w s t p text)
-  step-continues header_end e = each (is LineEnd t) on off
-  step-continues directive e =
+  step_continues : (w : Awaits) → is_end t ≡ false → Continues (step_at w s t p text)
+  step_continues header_end e = each (is LineEnd t) on off
+  step_continues directive e =
       each (is Percent t && same_text text (codes "%nt")) on
       (each (is Percent t && (same_text text (codes "%start") && ltb 0 (length s.outline.declarations))) on off)
-  step-continues new_name e =
+  step_continues new_name e =
       each (is Name t) (each (leb 16 (length s.outline.declarations)) off (each (is_some (declared s text)) off on)) off
-  step-continues (name_place letters) e = each (is Capitals t && eqb (length text) 1) on off
-  step-continues declaration_end e = each (is LineEnd t) on off
-  step-continues start_name e = each (is Name t) (start-continues (declared s text)) off
-  step-continues start_end e = each (is LineEnd t) on (unless-end (ends s.outline) _ e off)
-  step-continues rule_or_end e = each (is Name t) (left-continues (declared s text)) (unless-end (ends s.outline) _ e off)
-  step-continues (left_colon d) e = each (is Colon t) on off
-  step-continues (first_item d) e = any-continues d _ (each (is Close t) (none-continues d.brackets) off)
-  step-continues (item d) e = any-continues d _ off
-  step-continues (opening w q d) e = each (is Open t) on off
-  step-continues (after_item d) e = done-continues d d.brackets
-  step-continues (after_constant d) e = each (is Colon t) on (done-continues d d.brackets)
-  step-continues (low_end d) e = number-continues (2 ^ 32 - 1) _ on
-  step-continues (two_dots low at d) e = each (is Dots t) on off
-  step-continues (high_end low at d) e = number-continues (2 ^ 32 - 1) _ (each (ltb (value_in t) low) off on)
-  step-continues (mnemonic_word d) e =
+  step_continues (name_place letters) e = each (is Capitals t && eqb (length text) 1) on off
+  step_continues declaration_end e = each (is LineEnd t) on off
+  step_continues start_name e = each (is Name t) (start_continues (declared s text)) off
+  step_continues start_end e = each (is LineEnd t) on (unless_end (ends s.outline) _ e off)
+  step_continues rule_or_end e = each (is Name t) (left_continues (declared s text)) (unless_end (ends s.outline) _ e off)
+  step_continues (left_colon d) e = each (is Colon t) on off
+  step_continues (first_item d) e = any_continues d _ (each (is Close t) (none_continues d.brackets) off)
+  step_continues (item d) e = any_continues d _ off
+  step_continues (opening w q d) e = each (is Open t) on off
+  step_continues (after_item d) e = done_continues d d.brackets
+  step_continues (after_constant d) e = each (is Colon t) on (done_continues d d.brackets)
+  step_continues (low_end d) e = number_continues (2 ^ 32 - 1) _ on
+  step_continues (two_dots low at d) e = each (is Dots t) on off
+  step_continues (high_end low at d) e = number_continues (2 ^ 32 - 1) _ (each (ltb (value_in t) low) off on)
+  step_continues (mnemonic_word d) e =
       each (is Name t) on (each (is Minus t) (each (renames s.outline.declarations d.left_name d.so_far) on off) off)
-  step-continues (size_number m d) e = number-continues 99 _ on
-  step-continues (cycles_number size m d) e = number-continues 999 _ on
-  step-continues rule_end e = each (is LineEnd t) on (unless-end (ends s.outline) _ e off)
+  step_continues (size_number m d) e = number_continues 99 _ on
+  step_continues (cycles_number size m d) e = number_continues 999 _ on
+  step_continues rule_end e = each (is LineEnd t) on (unless_end (ends s.outline) _ e off)
 
 err_ok : (x : ℕ × ℕ) (out : Outline) → ◌≡◌ {A = Answer} (Err x) (Ok out) → ⊥
 err_ok x out e = let z : ◌≡◌ {A = ℕ} 0 1 = cc in omega arith
@@ -249,21 +249,21 @@ carried_on (fails k p) rest out h e = absurd (err_ok (k, p) out e)
 
 -- the other way round: the words that a token read makes
 module _ (bs : List ℕ) (o : ℕ) (h : o ≤ length bs) (t : Token) (p n : ℕ) (there : NextIs bs o t p n) where
-  front-parts : drop o bs ≡ take (p - o) (drop o bs) ++ (take n (drop p bs) ++ drop (p + n) bs)
-  front-parts =
+  front_parts : drop o bs ≡ take (p - o) (drop o bs) ++ (take n (drop p bs) ++ drop (p + n) bs)
+  front_parts =
       let back : o + (p - o) ≡ p = omega (arith, there.spaces.0) in
       sym (take-append-drop (p - o) (drop o bs))
       ∙ ap (λ l. take (p - o) (drop o bs) ++ l)
       (drop-drop (p - o) o bs ∙ ap (λ i. drop i bs) back ∙ sym (take-append-drop n (drop p bs)) ∙ ap (λ l. take n (drop p bs) ++ l) (drop-drop n p bs))
 
-  front-spaces : All (λ b. b ≡ 32) (take (p - o) (drop o bs))
-  front-spaces =
+  front_spaces : All (λ b. b ≡ 32) (take (p - o) (drop o bs))
+  front_spaces =
       let long : length (take (p - o) (drop o bs)) ≡ p - o = length-take-le (p - o) (drop o bs) (omega (arith, length-drop o bs, there.inside)) in
       All-from_get_or (λ b. b ≡ 32) (take (p - o) (drop o bs)) 0 (λ i lt.
       get_or-take (p - o) (drop o bs) i 0 (omega arith) ∙ get_or-drop o bs i 0 ∙ there.spaces.1 (o + i) (omega arith) (omega (arith, there.spaces.0)))
 
-  pub front-denotes : Denotes t (take n (drop p bs) ++ drop (p + n) bs) (length (take n (drop p bs)))
-  front-denotes =
+  pub front_denotes : Denotes t (take n (drop p bs) ++ drop (p + n) bs) (length (take n (drop p bs)))
+  front_denotes =
       let long : n ≡ length (take n (drop p bs)) = sym (length-take-le n (drop p bs) (omega (arith, length-drop p bs, there.inside))) in
       let parts : drop p bs ≡ take n (drop p bs) ++ drop (p + n) bs = sym (take-append-drop n (drop p bs)) ∙ ap (λ l. take n (drop p bs) ++ l) (drop-drop n p bs) in
       subst (λ m. Denotes t (take n (drop p bs) ++ drop (p + n) bs) m) long (subst (λ l. Denotes t l n) parts there.denotes)
@@ -275,11 +275,11 @@ read_leads (suc turns) bs o s out h e = go (token_at bs o) refl e (read_leads tu
   where
     at_end : (t : Token) (p n : ℕ) → token_at bs o ≡ Ok (t, (p, n)) → is_end t ≡ true → carried (step s t p (take n (drop p bs))) (read_from turns bs (p + n)) ≡ Ok out → (ws : List Word) × Spaced ws (drop o bs) × Leads ws s out
     at_end t p n e last c =
-        let there = stands-where-read bs o h t p n e in
+        let there = stands_where_read bs o h t p n e in
         let whole : p - o ≡ length (drop o bs) = omega (arith, length-drop o bs, end_is_last bs o h t p n e last) in
         let is = subst (λ t. carried (step s t p (take n (drop p bs))) (read_from turns bs (p + n)) ≡ Ok out) (ended t last) c in (
           [],
-          subst (All (λ b. b ≡ 32)) (ap (λ i. take i (drop o bs)) whole ∙ all_taken (drop o bs)) (front-spaces bs o h t p n there),
+          subst (All (λ b. b ≡ 32)) (ap (λ i. take i (drop o bs)) whole ∙ all_taken (drop o bs)) (front_spaces bs o h t p n there),
           (p, take n (drop p bs), carried_end (step s End p (take n (drop p bs))) _ out (end_stops s.awaits s p _) is),
         )
       where
@@ -289,16 +289,16 @@ read_leads (suc turns) bs o s out h e = go (token_at bs o) refl e (read_leads tu
 
     onward : (t : Token) (p n : ℕ) → token_at bs o ≡ Ok (t, (p, n)) → is_end t ≡ false → carried (step s t p (take n (drop p bs))) (read_from turns bs (p + n)) ≡ Ok out → ((q : ℕ) (u : State) (out : Outline) → q ≤ length bs → read_from turns bs q u ≡ Ok out → (ws : List Word) × Spaced ws (drop q bs) × Leads ws u out) → (ws : List Word) × Spaced ws (drop o bs) × Leads ws s out
     onward t p n e more c ih =
-        let there = stands-where-read bs o h t p n e in
-        let on = carried_on (step s t p (take n (drop p bs))) _ out (step-continues s t p _ s.awaits more) c in
+        let there = stands_where_read bs o h t p n e in
+        let on = carried_on (step s t p (take n (drop p bs))) _ out (step_continues s t p _ s.awaits more) c in
         let rest = ih (p + n) on.0 out there.inside on.2 in
-        let denotes = front-denotes bs o h t p n there in (
+        let denotes = front_denotes bs o h t p n there in (
           record { kind = t; spelling = take n (drop p bs) } ∷ rest.0,
           (
             take (p - o) (drop o bs),
             drop (p + n) bs,
-            front-parts bs o h t p n there,
-            front-spaces bs o h t p n there,
+            front_parts bs o h t p n there,
+            front_spaces bs o h t p n there,
             denotes,
             λ last. both_ways (is_end t) more (ap is_end last),
             rest.1,

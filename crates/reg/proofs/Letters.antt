@@ -8,7 +8,7 @@ use Rattle.board.specs.Machines.{Operation, operation_of, arity}
 use Rattle.board.specs.States.{Act, did_issue, did_store}
 use Rattle.board.specs.Acts.{before_last}
 use Rattle.processor.specs.Codes.{waiting_by, waiting_after_all}
-use Rattle.processor.proofs.Tables.{every-found}
+use Rattle.processor.proofs.Tables.{every_found}
 use Rattle.reg.specs.Table.{reg_operations, reg_machine}
 
 abbrev Capital : ℕ → Type 0
@@ -18,7 +18,7 @@ result_capital : (n : ℕ) (o : Operation) → operation_of reg_machine n ≡ So
 unfolding reg_operations
 result_capital n o e =
     let a = o.result_letter in
-    let both = and_parts (leb 65 a) _ (every-found (λ q. leb 65 q.result_letter && leb q.result_letter 90) reg_operations refl n o e) in
+    let both = and_parts (leb 65 a) _ (every_found (λ q. leb 65 q.result_letter && leb q.result_letter 90) reg_operations refl n o e) in
     (leb-true 65 a both.0, leb-true a 90 both.1)
 
 capitals_by : (n : ℕ) (w : List ℕ) → All Capital w → (r : Option Operation) → operation_of reg_machine n ≡ r → All Capital (waiting_by w r)
@@ -33,9 +33,9 @@ capitals_wait w (did_store v ∷ rest) h = capitals_wait (before_last 1 w) rest 
 
 -- a is the letter at depth i, where w are the letters that wait after some code
 module _ (w : List ℕ) (code : List Act) (waits : waiting_after_all reg_machine [] code ≡ w) (i a : ℕ) (there : i < length w) (at : a ≡ get_or w i 0) where
-  letter-capital : Capital a
-  letter-capital = subst Capital (sym at) (All-get_or Capital w i 0 there (subst (All Capital) waits (capitals_wait [] code tt)))
+  letter_capital : Capital a
+  letter_capital = subst Capital (sym at) (All-get_or Capital w i 0 there (subst (All Capital) waits (capitals_wait [] code tt)))
 
-  pub has-place : (r : Option Place) → MatchOption r (Capital a → ⊥) (λ p. p.letter ≡ a) → MatchOption r (length w ≤ i) (λ p. (i < length w) × (p.letter ≡ get_or w i 0))
-  has-place None none = absurd (none letter-capital)
-  has-place (Some p) is = (there, is ∙ at)
+  pub has_place : (r : Option Place) → MatchOption r (Capital a → ⊥) (λ p. p.letter ≡ a) → MatchOption r (length w ≤ i) (λ p. (i < length w) × (p.letter ≡ get_or w i 0))
+  has_place None none = absurd (none letter_capital)
+  has_place (Some p) is = (there, is ∙ at)

@@ -10,8 +10,8 @@ misplaced_over f n (inl h) = or_left _ _ (lt-ltb 7 (i_of f) h)
 misplaced_over f n (inr h) = or_right (ltb 7 (i_of f)) _ (or_left _ _ (lt-ltb 7 (j_of f) h))
 
 -- one that can be carried out asks for registers up to number 7
-pub placed-within : (f n : ℕ) → n ≤ 2 → reg_misplaced f n ≡ false → (i_of f ≤ 7) × (i_of f + n ≤ 8)
-placed-within f n few h =
+pub placed_within : (f n : ℕ) → n ≤ 2 → reg_misplaced f n ≡ false → (i_of f ≤ 7) × (i_of f + n ≤ 8)
+placed_within f n few h =
     let i = i_of f in
     let parts = or_parts (ltb 7 i) _ h in
     let rest = or_parts (ltb 7 (j_of f)) _ parts.1 in

@@ -14,11 +14,11 @@ j_within i n h l = go (n == 2) (n == 1) refl
     go false false e = omega arith
 
 module _ (op i j : ℕ) (low : i ≤ 7) (near : j ≤ 7) where
-  pub i-back : i_of (op * 256 + (i * 16 + j) % 256) ≡ i
-  i-back = omega arith
+  pub i_back : i_of (op * 256 + (i * 16 + j) % 256) ≡ i
+  i_back = omega arith
 
-  pub j-back : j_of (op * 256 + (i * 16 + j) % 256) ≡ j
-  j-back = omega arith
+  pub j_back : j_of (op * 256 + (i * 16 + j) % 256) ≡ j
+  j_back = omega arith
 
 -- only j counts where i and j are at most 7
 pub misplaced_by_j : (f n : ℕ) → i_of f ≤ 7 → j_of f ≤ 7 → reg_misplaced f n ≡ not (j_of f == j_for (i_of f) n)

@@ -28,8 +28,8 @@ registers_append i (p ∷ ps) qs own =
     ap (λ vs. slice_index own (slot p i) ∷ vs) (registers_append (i + 1) ps qs own ∙ ap (λ k. registers_from (i + 1) ps own ++ registers_from k qs own) same)
 
 -- a slot is among the sixteen, and differs from that of a higher number
-pub slot-within : (p i : ℕ) → i < 8 → slot p i < 16
-slot-within p i h = go (p == address_place)
+pub slot_within : (p i : ℕ) → i < 8 → slot p i < 16
+slot_within p i h = go (p == address_place)
   where
     go : (b : Bool) → cond b (8 + i) i < 16
     go true = omega arith

@@ -11,11 +11,11 @@ use Rattle.board.specs.Laws.{LawfulMachine}
 use Rattle.processor.specs.Designs.{store_opcode}
 use Rattle.processor.specs.Soundness.{Sound}
 use Rattle.processor.proofs.Judging.{enough_wait}
-use Rattle.processor.proofs.Tables.{found_among, every_all, every-found, once_by_number, once_by_text}
+use Rattle.processor.proofs.Tables.{found_among, every_all, every_found, once_by_number, once_by_text}
 use Rattle.reg.specs.Table.{data_place, reg_operations, reg_machine}
 use Rattle.reg.specs.Designs.{slot, registers_from, j_for, i_of, reg_misplaced, reg_design}
-use Rattle.reg.specs.Registers.{registers_length, registers_drop, registers_take, registers_append, registers_set, slot-within}
-use Rattle.reg.specs.FirstWords.{j_within, i-back, j-back, well_placed}
+use Rattle.reg.specs.Registers.{registers_length, registers_drop, registers_take, registers_append, registers_set, slot_within}
+use Rattle.reg.specs.FirstWords.{j_within, i_back, j_back, well_placed}
 
 -- sixteen registers, and at most eight operands that wait
 abbrev Held : List ℕ → List ℕ → Type 0
@@ -31,51 +31,51 @@ held_from w own h = and_from _ _ (eq-eqb (length own) 16 h.0) (le-leb (length w)
 
 -- an instruction of opcode op whose n operands, in the PLACES ls, are the last that wait
 module _ (op n : ℕ) (w own ls : List ℕ) (counted : n ≡ length ls) (wait : last_of n w ≡ ls) (shallow : length w - n + 1 ≤ 8) (held : Held w own) where
-  abbrev its-depth : ℕ
-  its-depth = length w - n
+  abbrev its_depth : ℕ
+  its_depth = length w - n
 
-  abbrev its-word : ℕ
-  its-word = op * 256 + (its-depth * 16 + j_for its-depth n) % 256
+  abbrev its_word : ℕ
+  its_word = op * 256 + (its_depth * 16 + j_for its_depth n) % 256
 
   enough : n ≤ length w
   enough = omega (arith, enough_wait w ls (ap (λ k. last_of k w) (sym counted) ∙ wait))
 
-  j-low : j_for its-depth n ≤ 7
-  j-low = j_within its-depth n (omega arith) (omega (arith, enough, held.1))
+  j_low : j_for its_depth n ≤ 7
+  j_low = j_within its_depth n (omega arith) (omega (arith, enough, held.1))
 
-  i-is : i_of its-word ≡ its-depth
-  i-is = i-back op its-depth (j_for its-depth n) (omega arith) j-low
+  i_is : i_of its_word ≡ its_depth
+  i_is = i_back op its_depth (j_for its_depth n) (omega arith) j_low
 
-  is-placed : reg_misplaced its-word n ≡ false
-  is-placed = well_placed its-word its-depth n i-is (j-back op its-depth (j_for its-depth n) (omega arith) j-low) (omega arith) j-low
+  is_placed : reg_misplaced its_word n ≡ false
+  is_placed = well_placed its_word its_depth n i_is (j_back op its_depth (j_for its_depth n) (omega arith) j_low) (omega arith) j_low
 
-  found : registers_from (i_of its-word) ls own ≡ last_of n (registers_from 0 w own)
+  found : registers_from (i_of its_word) ls own ≡ last_of n (registers_from 0 w own)
   found =
-      let from-0 : its-depth ≡ 0 + its-depth = omega arith in
-      (λ x. registers_from ((i-is ∙ from-0) x) (sym wait x) own) ∙ sym (registers_drop its-depth 0 w own)
+      let from-0 : its_depth ≡ 0 + its_depth = omega arith in
+      (λ x. registers_from ((i_is ∙ from-0) x) (sym wait x) own) ∙ sym (registers_drop its_depth 0 w own)
       ∙ ap (λ k. drop (k - n) (registers_from 0 w own)) (sym (registers_length 0 w own))
 
-  rest-is : registers_from 0 (before_last n w) own ≡ before_last n (registers_from 0 w own)
-  rest-is = sym (registers_take its-depth 0 w own) ∙ ap (λ k. take (k - n) (registers_from 0 w own)) (sym (registers_length 0 w own))
+  rest_is : registers_from 0 (before_last n w) own ≡ before_last n (registers_from 0 w own)
+  rest_is = sym (registers_take its_depth 0 w own) ∙ ap (λ k. take (k - n) (registers_from 0 w own)) (sym (registers_length 0 w own))
 
-  before-length : length (before_last n w) ≡ its-depth
-  before-length = length-take-le its-depth w (omega arith)
+  before_length : length (before_last n w) ≡ its_depth
+  before_length = length-take-le its_depth w (omega arith)
 
   module _ (p v : ℕ) where
-    held_after : Held (before_last n w ++ p ∷ []) (slice_set own (slot p (i_of its-word)) v)
-    held_after = (length-set own _ v ∙ held.0, omega (arith, length-append (before_last n w) (p ∷ []), before-length))
+    held_after : Held (before_last n w ++ p ∷ []) (slice_set own (slot p (i_of its_word)) v)
+    held_after = (length-set own _ v ∙ held.0, omega (arith, length-append (before_last n w) (p ∷ []), before_length))
 
-    set-read : slice_index_or (slice_set own (slot p its-depth) v) (slot p (0 + length (before_last n w))) 0 ≡ v
-    set-read =
-        let here : 0 + length (before_last n w) ≡ its-depth = omega (arith, before-length) in
-        ap (λ k. slice_index (slice_set own (slot p its-depth) v) (slot p k)) here
-        ∙ get_or-set_same own (slot p its-depth) v 0 (omega (arith, slot-within p its-depth (omega arith), held.0))
+    set_read : slice_index_or (slice_set own (slot p its_depth) v) (slot p (0 + length (before_last n w))) 0 ≡ v
+    set_read =
+        let here : 0 + length (before_last n w) ≡ its_depth = omega (arith, before_length) in
+        ap (λ k. slice_index (slice_set own (slot p its_depth) v) (slot p k)) here
+        ∙ get_or-set_same own (slot p its_depth) v 0 (omega (arith, slot_within p its_depth (omega arith), held.0))
 
-    read-after : registers_from 0 (before_last n w ++ p ∷ []) (slice_set own (slot p (i_of its-word)) v) ≡ before_last n (registers_from 0 w own) ++ v ∷ []
-    read-after =
-        ap (λ k. registers_from 0 (before_last n w ++ p ∷ []) (slice_set own (slot p k) v)) i-is
-        ∙ registers_append 0 (before_last n w) (p ∷ []) (slice_set own (slot p its-depth) v)
-        ∙ (λ x. (registers_set 0 (before_last n w) own p its-depth v (omega (arith, before-length)) (omega arith) ∙ rest-is) x ++ set-read x ∷ [])
+    read_after : registers_from 0 (before_last n w ++ p ∷ []) (slice_set own (slot p (i_of its_word)) v) ≡ before_last n (registers_from 0 w own) ++ v ∷ []
+    read_after =
+        ap (λ k. registers_from 0 (before_last n w ++ p ∷ []) (slice_set own (slot p k) v)) i_is
+        ∙ registers_append 0 (before_last n w) (p ∷ []) (slice_set own (slot p its_depth) v)
+        ∙ (λ x. (registers_set 0 (before_last n w) own p its_depth v (omega (arith, before_length)) (omega arith) ∙ rest_is) x ++ set_read x ∷ [])
 
 machine_lawful : LawfulMachine reg_machine
 unfolding reg_operations
@@ -93,8 +93,8 @@ reg_sound = record {
   lawful_machine = machine_lawful;
   store_apart = refl;
   opcodes_short = λ n o e.
-      omega (arith, ltb-true o.opcode_number 256 (every-found (λ q. nat_lt q.opcode_number 256) reg_operations refl n o e), (found_among reg_operations n o e).1);
-  one_payload = λ n o e. leb-true (leaf_total o) 1 (every-found (λ q. leb (leaf_total q) 1) reg_operations refl n o e);
+      omega (arith, ltb-true o.opcode_number 256 (every_found (λ q. nat_lt q.opcode_number 256) reg_operations refl n o e), (found_among reg_operations n o e).1);
+  one_payload = λ n o e. leb-true (leaf_total o) 1 (every_found (λ q. leb (leaf_total q) 1) reg_operations refl n o e);
   low_is_byte = λ i n. omega arith;
   starts = refl;
   value_each = λ w own h. registers_length 0 w own;
@@ -102,19 +102,19 @@ reg_sound = record {
       let held = held_read w own h in
       let ls = operand_letters o in
       record {
-        placed = is-placed n (arity o) w own ls refl wait shallow held;
+        placed = is_placed n (arity o) w own ls refl wait shallow held;
         operands_found = found n (arity o) w own ls refl wait shallow held;
         result_held = λ v. held_from _ _ (held_after n (arity o) w own ls refl wait shallow held o.result_letter v);
-        result_read = read-after n (arity o) w own ls refl wait shallow held o.result_letter;
+        result_read = read_after n (arity o) w own ls refl wait shallow held o.result_letter;
       };
   stores_run = λ w own wait h.
       let held = held_read w own h in
       let ls = data_place ∷ [] in
       let shallow : length w - 1 + 1 ≤ 8 = omega (arith, held.1) in
       record {
-        placed = is-placed store_opcode 1 w own ls refl wait shallow held;
+        placed = is_placed store_opcode 1 w own ls refl wait shallow held;
         operand_found = found store_opcode 1 w own ls refl wait shallow held;
-        rest_held = held_from (before_last 1 w) own (held.0, omega (arith, before-length store_opcode 1 w own ls refl wait shallow held));
-        rest_read = rest-is store_opcode 1 w own ls refl wait shallow held;
+        rest_held = held_from (before_last 1 w) own (held.0, omega (arith, before_length store_opcode 1 w own ls refl wait shallow held));
+        rest_read = rest_is store_opcode 1 w own ls refl wait shallow held;
       };
 }

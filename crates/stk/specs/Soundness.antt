@@ -11,7 +11,7 @@ use Rattle.board.specs.Laws.{LawfulMachine}
 use Rattle.processor.specs.Designs.{store_opcode, first_word}
 use Rattle.processor.specs.Soundness.{OperationRuns, StoreRuns, Sound}
 use Rattle.processor.proofs.Judging.{enough_wait}
-use Rattle.processor.proofs.Tables.{found_among, every_all, every-found, once_by_number, once_by_text}
+use Rattle.processor.proofs.Tables.{found_among, every_all, every_found, once_by_number, once_by_text}
 use Rattle.stk.specs.Table.{stack_place, stk_operations, stk_machine}
 use Rattle.stk.specs.Designs.{stack_misplaced, stk_design}
 
@@ -50,8 +50,8 @@ stk_sound = record {
   store_apart = refl;
   opcodes_short = λ n o e.
       let found = found_among stk_machine.operations n o e in
-      omega (arith, ltb-true o.opcode_number 256 (every-found (λ q. ltb q.opcode_number 256) stk_machine.operations refl n o e), found.1);
-  one_payload = λ n o e. leb-true (leaf_total o) 1 (every-found (λ q. leb (leaf_total q) 1) stk_machine.operations refl n o e);
+      omega (arith, ltb-true o.opcode_number 256 (every_found (λ q. ltb q.opcode_number 256) stk_machine.operations refl n o e), found.1);
+  one_payload = λ n o e. leb-true (leaf_total o) 1 (every_found (λ q. leb (leaf_total q) 1) stk_machine.operations refl n o e);
   low_is_byte = λ depth operands. omega arith;
   starts = refl;
   value_each = λ w own h. (height w own h).0;
@@ -81,4 +81,4 @@ stk_sound = record {
 pub result_in_stack : (n : ℕ) (o : Operation) → operation_of stk_machine n ≡ Some o → o.result_letter ≡ stack_place
 unfolding stk_operations
 result_in_stack n o e =
-    eqb-true o.result_letter stack_place (every-found (λ q. nat_eq q.result_letter stack_place) stk_operations refl n o e)
+    eqb-true o.result_letter stack_place (every_found (λ q. nat_eq q.result_letter stack_place) stk_operations refl n o e)

@@ -14,19 +14,19 @@ pub standing_more : (xs : List Node) (i : ℕ) → i < length xs → standing 0 
 standing_more xs i h = ap (standing 0) (take_more xs i _ h) ∙ standing_push 0 (take i xs) (node_at xs i)
 
 module _ (v : ℕ) (xs : List Node) where
-  pub none-11 : NoneBelow (length xs) (FaultyAt xs) → standing 0 xs ≡ 1 → (p : ℕ) → StatementFails v xs 11 p → ⊥
-  none-11 clean s p (too_many e _ _) = omega arith
-  none-11 clean s p (faulty _ f) = clean p f.within f.holds
-  none-11 clean s p (no_tree _ _ _ n) = n s
-  none-11 clean s p (variable_over e _) = omega arith
-  none-11 clean s p (target_over e _ _ _) = omega arith
+  pub none_11 : NoneBelow (length xs) (FaultyAt xs) → standing 0 xs ≡ 1 → (p : ℕ) → StatementFails v xs 11 p → ⊥
+  none_11 clean s p (too_many e _ _) = omega arith
+  none_11 clean s p (faulty _ f) = clean p f.within f.holds
+  none_11 clean s p (no_tree _ _ _ n) = n s
+  none_11 clean s p (variable_over e _) = omega arith
+  none_11 clean s p (target_over e _ _ _) = omega arith
 
-  pub none-13 : NoneBelow (length xs) (VariableOver xs) → v ≤ 63 → (p : ℕ) → StatementFails v xs 13 p → ⊥
-  none-13 clean s p (too_many e _ _) = omega arith
-  none-13 clean s p (faulty e _) = omega arith
-  none-13 clean s p (no_tree e _ _ _) = omega arith
-  none-13 clean s p (variable_over _ f) = clean p f.within f.holds
-  none-13 clean s p (target_over _ _ _ over) = omega arith
+  pub none_13 : NoneBelow (length xs) (VariableOver xs) → v ≤ 63 → (p : ℕ) → StatementFails v xs 13 p → ⊥
+  none_13 clean s p (too_many e _ _) = omega arith
+  none_13 clean s p (faulty e _) = omega arith
+  none_13 clean s p (no_tree e _ _ _) = omega arith
+  none_13 clean s p (variable_over _ f) = clean p f.within f.holds
+  none_13 clean s p (target_over _ _ _ over) = omega arith
 
   -- which of the three numbers a condition has
   by_number : {P : Type 0} {k p : ℕ} → StatementFails v xs k p → (k ≡ 12 → 256 < length xs → P) → (k ≡ 11 → StatementFails v xs 11 p → P) → (k ≡ 13 → StatementFails v xs 13 p → P) → P
@@ -37,12 +37,12 @@ module _ (v : ℕ) (xs : List Node) where
   by_number (target_over e q w n) f g h = h e (target_over refl q w n)
 
   -- the checks run in the order 12, 11, 13
-  pub denied-12 : 256 < length xs → StatementDenied v xs 12 256
-  denied-12 long = record { applies = too_many refl refl long; none_before = λ j q lt f. omega arith }
+  pub denied_12 : 256 < length xs → StatementDenied v xs 12 256
+  denied_12 long = record { applies = too_many refl refl long; none_before = λ j q lt f. omega arith }
 
   module _ (short : length xs ≤ 256) where
-    pub denied-11 : (p : ℕ) → StatementFails v xs 11 p → StatementDenied v xs 11 p
-    denied-11 p f = record {
+    pub denied_11 : (p : ℕ) → StatementFails v xs 11 p → StatementDenied v xs 11 p
+    denied_11 p f = record {
       applies = f;
       none_before = λ j q lt g.
           by_number g
@@ -51,8 +51,8 @@ module _ (v : ℕ) (xs : List Node) where
           (λ e _. let same : turn_of statement_order j ≡ 2 = ap (turn_of statement_order) e in omega arith);
     }
 
-    pub denied-13 : ((p : ℕ) → StatementFails v xs 11 p → ⊥) → (p : ℕ) → StatementFails v xs 13 p → StatementDenied v xs 13 p
-    denied-13 whole p f = record {
+    pub denied_13 : ((p : ℕ) → StatementFails v xs 11 p → ⊥) → (p : ℕ) → StatementFails v xs 13 p → StatementDenied v xs 13 p
+    denied_13 whole p f = record {
       applies = f;
       none_before = λ j q lt g.
           by_number g

@@ -107,8 +107,8 @@ length-older (t ∷ ts) = omega arith
 joins : (ts : List Tree) (x : Node) → (Faulty (length ts) x → ⊥) → Joins ts x
 joins ts x sound = go (operator_of x.operator) refl
   where
-    node-is : (o : Operator) (w : ℕ) → operator_of x.operator ≡ Some o → x.payload ≡ w → node_of o w ≡ x
-    node-is o w e p = λ i. record { operator = number_of_operator x.operator o e i; payload = sym p i }
+    node_is : (o : Operator) (w : ℕ) → operator_of x.operator ≡ Some o → x.payload ≡ w → node_of o w ≡ x
+    node_is o w e p = λ i. record { operator = number_of_operator x.operator o e i; payload = sym p i }
 
     no_payload : (o : Operator) → operator_of x.operator ≡ Some o → 0 < parts_of (Some o) → x.payload ≡ 0
     no_payload o e h = equal_from x.payload 0 (λ n. sound (has_payload (subst (λ op. 0 < parts_of op) (sym e) h) n))
@@ -124,19 +124,19 @@ joins ts x sound = go (operator_of x.operator) refl
 
     go : (op : Option Operator) → operator_of x.operator ≡ op → Joins ts x
     go None e = absurd (sound (unknown e))
-    go (Some Cnst) e = at (Some Cnst) e (ap (λ y. flat ts ++ y ∷ []) (node-is Cnst _ e refl)) (omega arith)
-    go (Some Var) e = at (Some Var) e (ap (λ y. flat ts ++ y ∷ []) (node-is Var _ e refl)) (omega arith)
+    go (Some Cnst) e = at (Some Cnst) e (ap (λ y. flat ts ++ y ∷ []) (node_is Cnst _ e refl)) (omega arith)
+    go (Some Var) e = at (Some Var) e (ap (λ y. flat ts ++ y ∷ []) (node_is Var _ e refl)) (omega arith)
     go (Some (One o)) e =
         let some : 0 < length ts = at_least (enough (One o) e) in
         at (Some (One o)) e
-        (ap (λ y. flat (older ts) ++ (postfix (newest ts) ++ y ∷ [])) (node-is (One o) 0 e (no_payload (One o) e (omega arith)))
+        (ap (λ y. flat (older ts) ++ (postfix (newest ts) ++ y ∷ [])) (node_is (One o) 0 e (no_payload (One o) e (omega arith)))
         ∙ sym (append_assoc (flat (older ts)) (postfix (newest ts)) _) ∙ ap (λ l. l ++ x ∷ []) (sym (flat-older ts some)))
         (omega (arith, length-older ts))
     go (Some (Two o)) e =
         let some : 1 < length ts = at_least (enough (Two o) e) in
         let more : 0 < length (older ts) = omega (arith, length-older ts) in
         at (Some (Two o)) e
-        (ap (λ y. flat (older (older ts)) ++ (postfix (newest (older ts)) ++ (postfix (newest ts) ++ y ∷ []))) (node-is (Two o) 0 e (no_payload (Two o) e (omega arith)))
+        (ap (λ y. flat (older (older ts)) ++ (postfix (newest (older ts)) ++ (postfix (newest ts) ++ y ∷ []))) (node_is (Two o) 0 e (no_payload (Two o) e (omega arith)))
         ∙ sym (append_assoc (flat (older (older ts))) (postfix (newest (older ts))) _)
         ∙ ap (λ l. l ++ (postfix (newest ts) ++ x ∷ [])) (sym (flat-older (older ts) more))
         ∙ sym (append_assoc (flat (older ts)) (postfix (newest ts)) _) ∙ ap (λ l. l ++ x ∷ []) (sym (flat-older ts (omega arith))))

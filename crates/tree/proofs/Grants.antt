@@ -11,7 +11,7 @@ use Rattle.tree.specs.Trees.{Tree, cnst, var, one, two, node_count, node_of, pos
 use Rattle.tree.specs.Refusals.{FirstBelow, NoneBelow}
 use Rattle.tree.specs.Statements.{StatementFails, StatementGranted, Stands, GrantedIsTree, FaultyAt, VariableOver, standing, parts_of, node_at, too_many, faulty, no_tree, variable_over, target_over}
 use Rattle.operators.proofs.Numbers.{operator_of_number}
-use Rattle.tree.proofs.Conditions.{none-11, none-13, granted}
+use Rattle.tree.proofs.Conditions.{none_11, none_13, granted}
 use Rattle.tree.proofs.Forests.{newest, forest, flat, Clean, clean_below, below_clean, stood, postfix_clean, standing-postfix, length-postfix, at_least, equal_from}
 
 -- where there is no first, there is none
@@ -86,8 +86,8 @@ tree_of v xs g =
 granted_tree : (v : ℕ) (t : Tree) → node_count t ≤ 256 → VariablesWithin t → v ≤ 63 → StatementGranted v (postfix t)
 granted_tree v t short within target =
     granted v (postfix t) (omega (arith, length-postfix t))
-    (none-11 v (postfix t) (clean_below 0 (postfix t) (postfix_clean t)) (standing-postfix t))
-    (none-13 v (postfix t) (λ j h over. let w = All-get_or Within (postfix t) j _ h (all_from t within) over.0 in omega (arith, over.1)) target)
+    (none_11 v (postfix t) (clean_below 0 (postfix t) (postfix_clean t)) (standing-postfix t))
+    (none_13 v (postfix t) (λ j h over. let w = All-get_or Within (postfix t) j _ h (all_from t within) over.0 in omega (arith, over.1)) target)
 
 pub granted_is_tree_lem : GrantedIsTree
 granted_is_tree_lem v xs =

@@ -39,8 +39,8 @@ pub granted_same : (s : Statement) (c : CheckedStatement) → Same s c → Grant
 granted_same s c e = subst₂ StatementGranted e.0 e.1 c.granted
 
 module _ (ss : List Statement) (i : ℕ) (d : Statement) (h : i < length ss) (before : All Granted (take i ss)) where
-  pub first-denied : (k p : ℕ) → Denied (get_or ss i d) k p → FirstDenied ss i k p
-  first-denied k p r = record {
+  pub first_denied : (k p : ℕ) → Denied (get_or ss i d) k p → FirstDenied ss i k p
+  first_denied k p r = record {
     before = take i ss;
     refused = get_or ss i d;
     after = drop (i + 1) ss;
@@ -52,11 +52,11 @@ module _ (ss : List Statement) (i : ℕ) (d : Statement) (h : i < length ss) (be
 
   -- one statement more
   module _ (c : CheckedStatement) (same : Same (get_or ss i d) c) where
-    pub granted-more : All Granted (take (i + 1) ss)
-    granted-more = All-more Granted ss i d h before (granted_same (get_or ss i d) c same)
+    pub granted_more : All Granted (take (i + 1) ss)
+    granted_more = All-more Granted ss i d h before (granted_same (get_or ss i d) c same)
 
-    pub evaluated-more : (σ σ' τ : List ℕ) → τ ≡ evaluated (map assignment_of (take i ss)) σ → ((t : Tree) → postfix t ≡ nodes_of c → σ' ≡ set τ c.target (value_of τ t)) → σ' ≡ evaluated (map assignment_of (take (i + 1) ss)) σ
-    evaluated-more σ σ' τ e gives =
+    pub evaluated_more : (σ σ' τ : List ℕ) → τ ≡ evaluated (map assignment_of (take i ss)) σ → ((t : Tree) → postfix t ≡ nodes_of c → σ' ≡ set τ c.target (value_of τ t)) → σ' ≡ evaluated (map assignment_of (take (i + 1) ss)) σ
+    evaluated_more σ σ' τ e gives =
         let s = get_or ss i d in
         let a = assignment_of s in
         let nodes = (says s (granted_same s c same)).stands.nodes_are in

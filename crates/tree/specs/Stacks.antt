@@ -17,7 +17,7 @@ module _ {T : Type 0} where
 
   -- x is the newest entry, in the first place of the memory beyond; the rest of that memory is untouched
   pub record Pushed (s : Stack T) (x : T) (after : Stack T) : Type 0 where
-    pub had-room : 0 < length (beyond s)
+    pub had_room : 0 < length (beyond s)
     pub entries : held after ≡ x ∷ held s
     pub untouched : beyond after ≡ drop 1 (beyond s)
 

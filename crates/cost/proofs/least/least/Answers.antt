@@ -1,6 +1,6 @@
 use Rattle.std.proofs.Common.{◌+◌, None, sym, ◌∙◌, subst}
 use Rattle.std.proofs.lemmas.List.{get_or_default}
-use Rattle.cost.proofs.Rows.{SoFar, one_more, none-there, first-least}
+use Rattle.cost.proofs.Rows.{SoFar, one_more, none_there, first_least}
 use Rattle.cost.proofs.least.least.Goals as goal
 
 pub loop-i-preserved : goal.loop-i-preserved
@@ -14,10 +14,10 @@ loop-i-preserved g c =
 
 pub returns-in-Some : goal.returns-in-Some
 returns-in-Some g c =
-    first-least g.C.Cost.kind c.args.row.now c.loop-i.i (c.in-Some.i, c.in-Some.field-0-1) c.loop-i-test.false c.loop-i.auto.i-end
+    first_least g.C.Cost.kind c.args.row.now c.loop-i.i (c.in-Some.i, c.in-Some.field-0-1) c.loop-i-test.false c.loop-i.auto.i-end
     (subst (SoFar g.C.Cost.kind c.args.row.now c.loop-i.i) c.in-Some.is c.loop-i.invariant)
 
 pub returns-in-None : goal.returns-in-None
 returns-in-None g c =
-    none-there g.C.Cost.kind c.args.row.now c.loop-i.i c.loop-i-test.false
+    none_there g.C.Cost.kind c.args.row.now c.loop-i.i c.loop-i-test.false
     (subst (SoFar g.C.Cost.kind c.args.row.now c.loop-i.i) c.in-None.is c.loop-i.invariant)

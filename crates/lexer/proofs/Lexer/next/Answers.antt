@@ -1,7 +1,7 @@
 use Rattle.std.proofs.Common.{Err, sym, refl, ap, ◌∙◌, arith}
 use Rattle.std.proofs.lemmas.Result.{err_from_is_err_and}
 use Rattle.lexer.specs.Tokens.{placed, offset_after}
-use Rattle.lexer.proofs.Standing.{answered, answer-inside}
+use Rattle.lexer.proofs.Standing.{answered, answer_inside}
 use Rattle.lexer.proofs.Lexer.next.Goals as goal
 
 pub returns-in-err-token : goal.returns-in-err-token
@@ -15,12 +15,12 @@ returns-in-err-token c =
 pub overflow-add-self : goal.overflow-add-self
 overflow-add-self c =
     let l = c.args.self.now in
-    omega (arith, answer-inside l.text.now l.offset c.run-length.result c.front.result c.run-length.ensures.longest c.front.ensures l.within _ _ c.in-ok-token.was)
+    omega (arith, answer_inside l.text.now l.offset c.run-length.result c.front.result c.run-length.ensures.longest c.front.ensures l.within _ _ c.in-ok-token.was)
 
 pub invariant-of-self : goal.invariant-of-self
 invariant-of-self c =
     let l = c.args.self.now in
-    (answer-inside l.text.now l.offset c.run-length.result c.front.result c.run-length.ensures.longest c.front.ensures l.within _ _ c.in-ok-token.was, tt)
+    (answer_inside l.text.now l.offset c.run-length.result c.front.result c.run-length.ensures.longest c.front.ensures l.within _ _ c.in-ok-token.was, tt)
 
 pub returns : goal.returns
 returns c =

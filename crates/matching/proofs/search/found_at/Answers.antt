@@ -6,8 +6,8 @@ use Rattle.tree.specs.Statements.{node_at}
 use Rattle.matching.specs.Found.{operands_found, payloads_found}
 use Rattle.pattern.specs.Items.{item_parts, count_of_leaves, count_of_operands, operands_in, leaves_in}
 use Rattle.matching.specs.Steps.{fits_node, found_from, part_nodes, operand_there, payload_there}
-use Rattle.pattern.proofs.ItemSteps.{step, parts-few}
-use Rattle.matching.proofs.Steps.{Nodes, step-on, stop, next-inside, rest-inside, parts-inside, part_count, operand_found, payload_found}
+use Rattle.pattern.proofs.ItemSteps.{step, parts_few}
+use Rattle.matching.proofs.Steps.{Nodes, step_on, stop, next_inside, rest_inside, parts_inside, part_count, operand_found, payload_found}
 use Rattle.matching.proofs.search.found_at.Goals as goal
 
 pub returns-then-not-fits : goal.returns-then-not-fits
@@ -44,14 +44,14 @@ loop-item-preserved c =
     let l = get_or t.left k 0 in
     let fit = c.if-not-fits.ensures in
     let rest = c.await-parts.ensures.entries ∙ ap (λ js. part_nodes x k l ++ js) c.taken-at.ensures.entries in
-    let inside : k < t.len = subst (λ j. j < t.len) (sym c.taken-at.ensures.value) (next-inside t ks (omega arith) c.loop-item.invariant.1) in
+    let inside : k < t.len = subst (λ j. j < t.len) (sym c.taken-at.ensures.value) (next_inside t ks (omega arith) c.loop-item.invariant.1) in
     let more = step count_of_operands xs i x c.loop-item-test.true c.item-item.is in
     let more' = step count_of_leaves xs i x c.loop-item-test.true c.item-item.is in (
       c.loop-item.invariant.0 ∙ step (λ ys. found_from t ys ks os ws) xs i x c.loop-item-test.true c.item-item.is
-          ∙ step-on t x (drop (i + 1) xs) ks os ws k c.taken-at.ensures.value _ _ _ fit rest c.keep.ensures.operands c.keep.ensures.payloads,
+          ∙ step_on t x (drop (i + 1) xs) ks os ws k c.taken-at.ensures.value _ _ _ fit rest c.keep.ensures.operands c.keep.ensures.payloads,
       subst (Nodes t) (sym rest)
-          (All-append (λ j. j < t.len) (part_nodes x k l) (drop 1 ks) (parts-inside t x k inside (sym fit)) (rest-inside t ks c.loop-item.invariant.1)),
-      omega (arith, ap length rest, length-append (part_nodes x k l) (drop 1 ks), part_count t x k l, parts-few x, length-drop 1 ks, c.loop-item.invariant.2),
+          (All-append (λ j. j < t.len) (part_nodes x k l) (drop 1 ks) (parts_inside t x k inside (sym fit)) (rest_inside t ks c.loop-item.invariant.1)),
+      omega (arith, ap length rest, length-append (part_nodes x k l) (drop 1 ks), part_count t x k l, parts_few x, length-drop 1 ks, c.loop-item.invariant.2),
       c.await-parts.ensures.size ∙ c.taken-at.ensures.size ∙ c.loop-item.invariant.3,
       omega (arith, ap length c.keep.ensures.operands, length-append os (operand_there x k), operand_found x k, c.loop-item.invariant.4, more),
       omega (arith, ap length c.keep.ensures.payloads, length-append ws (payload_there x (node_at t.nodes k).payload), payload_found x (node_at t.nodes k).payload, c.loop-item.invariant.5, more'),

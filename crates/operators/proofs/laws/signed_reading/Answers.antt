@@ -1,5 +1,5 @@
-use Rattle.operators.proofs.Signs.{signed-reading}
+use Rattle.operators.proofs.Signs.{signed_reading_lem}
 use Rattle.operators.proofs.laws.signed_reading.Goals as goal
 
 pub returns : goal.returns
-returns c = signed-reading
+returns c = signed_reading_lem

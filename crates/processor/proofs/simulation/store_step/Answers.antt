@@ -2,7 +2,7 @@ use Rattle.std.proofs.Common.{◌≡◌, ◌<◌, true, false, leb, [], ◌∷�
 use Rattle.std.proofs.lemmas.Bool.{and_from, le-leb, both_ways}
 use Rattle.board.proofs.Fronts.{rest_of}
 use Rattle.processor.specs.Simulations.{store_entry, entry_of, Running, running, carried_out, simulated}
-use Rattle.processor.proofs.Steps.{goes_with, on-with}
+use Rattle.processor.proofs.Steps.{goes_with, on_with}
 use Rattle.processor.proofs.simulation.store_step.Goals as goal
 use Rattle.processor.proofs.simulation.store_step.Goals.{in-Some, in-default-take}
 
@@ -23,6 +23,6 @@ returns g c =
           sym (λ i. running ((w.setting-is ∙ ap (set c.args.setting.now (get_or ws 0 0)) is.0) i) (is.1 i))
       | in-default-take w ↦ absurd (both_ways _ placed w.in-default-take.ensures.0)
     ] in
-    on-with d c.args.place f s _ ws some
+    on_with d c.args.place f s _ ws some
     (goes_with d c.args.place f s store_entry known placed (get_or ws 0 0) (rest_of ws) (omega arith) (and_from (leb (get_or ws 0 0) 63) true (le-leb _ 63 c.if-variable-gt-LAST-VARIABLE.false) refl)
     ∙ ap (simulated d _ (rest_of ws)) after)

@@ -8,7 +8,7 @@ use Rattle.reader.specs.Faults.{fault_number, fault_place}
 use Rattle.reader.specs.Reading.{Outcome, State, step, goes, ends, fails, read_from, nothing_read}
 use Rattle.reader.specs.States.{awaits_of, stands, outcome_of, answer_of}
 use Rattle.reader.specs.Soundness.{Sound}
-use Rattle.reader.proofs.Turns.{token_spelled, token_inside, same_slice, nothing_stands, reading-starts, turn-falls, turn-again, ends-here, fails-here}
+use Rattle.reader.proofs.Turns.{token_spelled, token_inside, same_slice, nothing_stands, reading_starts, turn_falls, turn_again, ends_here, fails_here}
 use Rattle.reader.proofs.read.read_lines.Goals as goal
 
 pub loop-token-init : goal.loop-token-init
@@ -17,7 +17,7 @@ loop-token-init c =
     let d = c.empty.result in (
       length l.text.now - 1,
       omega (arith, c.requires),
-      reading-starts l.text.now l.offset _ c.requires l.within (nothing_stands d c.empty.ensures.names c.empty.ensures.rules),
+      reading_starts l.text.now l.offset _ c.requires l.within (nothing_stands d c.empty.ensures.names c.empty.ensures.rules),
       tt,
       refl,
     )
@@ -54,7 +54,7 @@ returns-in-err-next c =
     let e = c.in-err-next.field-0.0 in
     let s = stands c.loop-token.progress (awaits_of c.loop-token.expect) in
     ap answer_of (told.1 ∙ ap Err told.2)
-    ∙ fails-here l.text.now l.offset s c.loop-token.invariant.0 a.token a.place a.length (sym a.ensures.answer) (fault_number e) (fault_place e)
+    ∙ fails_here l.text.now l.offset s c.loop-token.invariant.0 a.token a.place a.length (sym a.ensures.answer) (fault_number e) (fault_place e)
     (c.in-err-next.ensures ∙ ap (step s a.token a.place) (same_slice l.text.now c.next.new.self.text.now a.place a.length text))
     ∙ c.loop-token.invariant.2
 
@@ -65,7 +65,7 @@ loop-token-smaller c =
     let text = ap (λ r. r.now) a.ensures.same_text in
     let s = stands c.loop-token.progress (awaits_of c.loop-token.expect) in
     let next = stands c.step.new.self (awaits_of c.in-More.next) in
-    turn-falls l.text.now l.offset a.token a.place a.length c.next.new.self.text.now c.next.new.self.offset l.within (sym a.ensures.answer) text a.ensures.moved s next
+    turn_falls l.text.now l.offset a.token a.place a.length c.next.new.self.text.now c.next.new.self.offset l.within (sym a.ensures.answer) text a.ensures.moved s next
     (ap (λ x. outcome_of c.step.new.self (Ok x)) (sym c.in-More.is) ∙ c.in-ok-next.ensures ∙ ap (step s a.token a.place) (same_slice l.text.now c.next.new.self.text.now a.place a.length text))
 
 pub loop-token-preserved : goal.loop-token-preserved
@@ -76,7 +76,7 @@ loop-token-preserved c =
     let s = stands c.loop-token.progress (awaits_of c.loop-token.expect) in
     let next = stands c.step.new.self (awaits_of c.in-More.next) in
     let inv = c.loop-token.invariant in
-    let on = turn-again l.text.now l.offset a.token a.place a.length c.next.new.self.text.now c.next.new.self.offset l.within (sym a.ensures.answer) text a.ensures.moved s next
+    let on = turn_again l.text.now l.offset a.token a.place a.length c.next.new.self.text.now c.next.new.self.offset l.within (sym a.ensures.answer) text a.ensures.moved s next
     (ap (λ x. outcome_of c.step.new.self (Ok x)) (sym c.in-More.is) ∙ c.in-ok-next.ensures ∙ ap (step s a.token a.place) (same_slice l.text.now c.next.new.self.text.now a.place a.length text))
     inv.0 _ inv.1 inv.2 inv.3 in
     (on.0, on.1, on.2, on.3, text ∙ inv.4)
@@ -87,6 +87,6 @@ returns-in-Done c =
     let a = c.in-ok-token in
     let text = ap (λ r. r.now) a.ensures.same_text in
     let s = stands c.loop-token.progress (awaits_of c.loop-token.expect) in
-    ends-here l.text.now l.offset s c.loop-token.invariant.0 a.token a.place a.length (sym a.ensures.answer) (outline_of c.step.new.self.description)
+    ends_here l.text.now l.offset s c.loop-token.invariant.0 a.token a.place a.length (sym a.ensures.answer) (outline_of c.step.new.self.description)
     (ap (λ x. outcome_of c.step.new.self (Ok x)) (sym c.in-Done.is) ∙ c.in-ok-next.ensures ∙ ap (step s a.token a.place) (same_slice l.text.now c.next.new.self.text.now a.place a.length text))
     ∙ c.loop-token.invariant.2

@@ -3,14 +3,14 @@ use Rattle.std.proofs.lemmas.List.{take_all}
 use Rattle.std.specs.List.{AllByRecursion as All}
 use Rattle.tree.specs.Evaluations.{Granted, in_statement}
 use Rattle.tree.specs.Trees.{evaluated}
-use Rattle.tree.proofs.Programs.{assignment_of, say_all, first-denied, granted-more, evaluated-more}
+use Rattle.tree.proofs.Programs.{assignment_of, say_all, first_denied, granted_more, evaluated_more}
 use Rattle.tree.proofs.evaluation.evaluate.Goals as goal
 
 pub returns-in-Err : goal.returns-in-Err
 returns-in-Err c = (
   refl,
   in_statement c.loop-i.i c.if-variables-ne-VARIABLES.false refl
-      (first-denied c.args.statements.now c.loop-i.i _ c.loop-i-test.true c.loop-i.invariant.0 _ _ c.in-Err.ensures),
+      (first_denied c.args.statements.now c.loop-i.i _ c.loop-i-test.true c.loop-i.invariant.0 _ _ c.in-Err.ensures),
 )
 
 pub loop-i-preserved : goal.loop-i-preserved
@@ -20,9 +20,9 @@ loop-i-preserved c =
     let h = c.loop-i-test.true in
     let before = c.loop-i.invariant.0 in
     let same = c.in-Ok.ensures in (
-      granted-more ss i _ h before c.in-Ok.checked same,
+      granted_more ss i _ h before c.in-Ok.checked same,
       c.assign.auto.setting ∙ c.loop-i.invariant.1,
-      evaluated-more ss i _ h before c.in-Ok.checked same c.args.variables.now c.assign.new.setting c.loop-i.setting c.loop-i.invariant.2 c.assign.ensures,
+      evaluated_more ss i _ h before c.in-Ok.checked same c.args.variables.now c.assign.new.setting c.loop-i.setting c.loop-i.invariant.2 c.assign.ensures,
     )
 
 pub returns : goal.returns

@@ -1,13 +1,13 @@
 use Rattle.std.proofs.Common.{sym, ◌∙◌, arith}
 use Rattle.std.proofs.lemmas.Bool.{both_ways}
 use Rattle.pattern.specs.Letters.{letters_of}
-use Rattle.description.proofs.Names.{number-here, number_passed, number_end}
+use Rattle.description.proofs.Names.{number_here, number_passed, number_end}
 use Rattle.description.proofs.descriptions.Description.number_of.Goals as goal
 
 pub returns-then-eq : goal.returns-then-eq
 returns-then-eq c =
     let d = c.args.self.now in
-    sym (number-here (letters_of c.args.name.now) d.name_count c.loop-i.i d.names _ c.loop-i-test.true (omega arith) (c.eq.ensures.0 c.if-eq.true))
+    sym (number_here (letters_of c.args.name.now) d.name_count c.loop-i.i d.names _ c.loop-i-test.true (omega arith) (c.eq.ensures.0 c.if-eq.true))
     ∙ c.loop-i.invariant
 
 pub loop-i-preserved : goal.loop-i-preserved

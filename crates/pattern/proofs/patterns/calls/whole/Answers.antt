@@ -1,7 +1,7 @@
 use Rattle.std.proofs.Common.{◌≡◌, suc, ◌+◌, ◌-◌, eqb, drop, sym, ap, ◌∙◌, subst, arith}
 use Rattle.std.proofs.lemmas.List.{at_drop_all}
 use Rattle.pattern.specs.Items.{whole_from, item_parts}
-use Rattle.pattern.proofs.ItemSteps.{step, whole_step, parts-few}
+use Rattle.pattern.proofs.ItemSteps.{step, whole_step, parts_few}
 use Rattle.pattern.proofs.patterns.calls.whole.Goals as goal
 
 pub loop-item-preserved : goal.loop-item-preserved
@@ -10,7 +10,7 @@ loop-item-preserved c =
     let i = c.loop-item.item-index in
     let x = c.item-item.result in
     let n = c.loop-item.wanted in
-    let few = parts-few x in
+    let few = parts_few x in
     let more : item_parts x + (n - 1) ≡ n - 1 + c.parts.result = omega arith in (
       c.loop-item.invariant.0 ∙ step (whole_from n) xs i x c.loop-item-test.true c.item-item.is
           ∙ whole_step n x (drop (i + 1) xs) c.if-wanted-eq0.false ∙ ap (λ k. whole_from k (drop (i + 1) xs)) more,

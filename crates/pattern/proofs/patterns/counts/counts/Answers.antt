@@ -1,7 +1,7 @@
 use Rattle.std.proofs.Common.{◌+◌, ◌≤◌, drop, sym, ap, ◌∙◌, arith}
 use Rattle.std.proofs.lemmas.List.{at_drop_all}
 use Rattle.pattern.specs.Items.{count_of_operands, count_of_leaves, operands_in, leaves_in}
-use Rattle.pattern.proofs.ItemSteps.{step, operands_few, leaves-few}
+use Rattle.pattern.proofs.ItemSteps.{step, operands_few, leaves_few}
 use Rattle.pattern.proofs.patterns.counts.counts.Goals as goal
 
 pub loop-item-preserved : goal.loop-item-preserved
@@ -12,7 +12,7 @@ loop-item-preserved c =
     let more = step count_of_operands xs i x c.loop-item-test.true c.item-item.is in
     let more' = step count_of_leaves xs i x c.loop-item-test.true c.item-item.is in
     let few = operands_few x in
-    let few' = leaves-few x in
+    let few' = leaves_few x in
     (omega arith, omega arith, omega arith, omega arith)
 
 pub returns : goal.returns

@@ -1,24 +1,24 @@
 use Rattle.std.proofs.Common.{[], ◌∷◌, sym, arith}
 use Rattle.std.proofs.lemmas.Bool.{ltb-true, ltb-false}
 use Rattle.board.specs.Machines.{operand_letters}
-use Rattle.processor.proofs.Judging.{arity-is, leaf-total-is, waits-from, lacks-from, admits-at, leaves_limited, enough_wait, refused-operands, refused-payload, refused-depth, refused-room}
+use Rattle.processor.proofs.Judging.{arity_is, leaf_total_is, waits_from, lacks_from, admits_at, leaves_limited, enough_wait, refused_operands, refused_payload, refused_depth, refused_room}
 use Rattle.processor.proofs.requests.judging.allowed.Goals as goal
 
 pub returns-then-not-operands-wait : goal.returns-then-not-operands-wait
 returns-then-not-operands-wait g c =
     let found = c.in-Some.ensures in
     let w = c.args.waiting.now in
-    refused-operands _ w c.args.free c.args.opcode c.args.first c.args.second found.0 found.1
-    (lacks-from c.in-Some.instruction found.0 found.2 w (sym c.if-not-operands-wait.ensures))
+    refused_operands _ w c.args.free c.args.opcode c.args.first c.args.second found.0 found.1
+    (lacks_from c.in-Some.instruction found.0 found.2 w (sym c.if-not-operands-wait.ensures))
 
 pub returns-then-not-admits : goal.returns-then-not-admits
 returns-then-not-admits g c =
     let found = c.in-Some.ensures in
     let w = c.args.waiting.now in
     let i = c.in-Some.instruction in
-    refused-payload _ w c.args.free c.args.opcode c.args.first c.args.second found.0 found.1
-    (waits-from i found.0 found.2 w (sym c.if-not-operands-wait.ensures))
-    (admits-at i found.0 found.2 (c.args.first ∷ c.args.second ∷ []) c.admits.ensures c.if-not-admits.true)
+    refused_payload _ w c.args.free c.args.opcode c.args.first c.args.second found.0 found.1
+    (waits_from i found.0 found.2 w (sym c.if-not-operands-wait.ensures))
+    (admits_at i found.0 found.2 (c.args.first ∷ c.args.second ∷ []) c.admits.ensures c.if-not-admits.true)
 
 pub overflow-sub-depth : goal.overflow-sub-depth
 overflow-sub-depth g c =
@@ -26,8 +26,8 @@ overflow-sub-depth g c =
     let w = c.args.waiting.now in
     let i = c.in-Some.instruction in
     let o = found.0 in
-    let enough = enough_wait w (operand_letters o) (waits-from i o found.2 w (sym c.if-not-operands-wait.ensures)) in
-    omega (arith, enough, arity-is i o found.2)
+    let enough = enough_wait w (operand_letters o) (waits_from i o found.2 w (sym c.if-not-operands-wait.ensures)) in
+    omega (arith, enough, arity_is i o found.2)
 
 pub lacks-room-requires : goal.lacks-room-requires
 lacks-room-requires g c = leaves_limited c.in-Some.instruction.meaning
@@ -37,21 +37,21 @@ returns-then-beyond-limit g c =
     let found = c.in-Some.ensures in
     let w = c.args.waiting.now in
     let i = c.in-Some.instruction in
-    refused-depth _ w c.args.free c.args.opcode c.args.first c.args.second found.0 found.1
-    (waits-from i found.0 found.2 w (sym c.if-not-operands-wait.ensures))
-    (admits-at i found.0 found.2 (c.args.first ∷ c.args.second ∷ []) c.admits.ensures c.if-not-admits.false)
-    (omega (arith, arity-is i found.0 found.2, ltb-true _ _ (sym c.if-beyond-limit.ensures)))
+    refused_depth _ w c.args.free c.args.opcode c.args.first c.args.second found.0 found.1
+    (waits_from i found.0 found.2 w (sym c.if-not-operands-wait.ensures))
+    (admits_at i found.0 found.2 (c.args.first ∷ c.args.second ∷ []) c.admits.ensures c.if-not-admits.false)
+    (omega (arith, arity_is i found.0 found.2, ltb-true _ _ (sym c.if-beyond-limit.ensures)))
 
 pub returns-then-lacks-room : goal.returns-then-lacks-room
 returns-then-lacks-room g c =
     let found = c.in-Some.ensures in
     let w = c.args.waiting.now in
     let i = c.in-Some.instruction in
-    refused-room _ w c.args.free c.args.opcode c.args.first c.args.second found.0 found.1
-    (waits-from i found.0 found.2 w (sym c.if-not-operands-wait.ensures))
-    (admits-at i found.0 found.2 (c.args.first ∷ c.args.second ∷ []) c.admits.ensures c.if-not-admits.false)
-    (omega (arith, arity-is i found.0 found.2, ltb-false _ _ (sym c.if-beyond-limit.ensures)))
-    (omega (arith, leaf-total-is i found.0 found.2, ltb-true _ _ (sym c.if-lacks-room.ensures)))
+    refused_room _ w c.args.free c.args.opcode c.args.first c.args.second found.0 found.1
+    (waits_from i found.0 found.2 w (sym c.if-not-operands-wait.ensures))
+    (admits_at i found.0 found.2 (c.args.first ∷ c.args.second ∷ []) c.admits.ensures c.if-not-admits.false)
+    (omega (arith, arity_is i found.0 found.2, ltb-false _ _ (sym c.if-beyond-limit.ensures)))
+    (omega (arith, leaf_total_is i found.0 found.2, ltb-true _ _ (sym c.if-lacks-room.ensures)))
 
 pub returns : goal.returns
 returns g c =
@@ -62,10 +62,10 @@ returns g c =
       by = found.0;
       allowed = record {
         is = found.1;
-        operands_wait = waits-from i found.0 found.2 w (sym c.if-not-operands-wait.ensures);
-        admitted_both = admits-at i found.0 found.2 (c.args.first ∷ c.args.second ∷ []) c.admits.ensures c.if-not-admits.false;
-        shallow = omega (arith, arity-is i found.0 found.2, ltb-false _ _ (sym c.if-beyond-limit.ensures));
-        room = omega (arith, leaf-total-is i found.0 found.2, ltb-false _ _ (sym c.if-lacks-room.ensures));
+        operands_wait = waits_from i found.0 found.2 w (sym c.if-not-operands-wait.ensures);
+        admitted_both = admits_at i found.0 found.2 (c.args.first ∷ c.args.second ∷ []) c.admits.ensures c.if-not-admits.false;
+        shallow = omega (arith, arity_is i found.0 found.2, ltb-false _ _ (sym c.if-beyond-limit.ensures));
+        room = omega (arith, leaf_total_is i found.0 found.2, ltb-false _ _ (sym c.if-lacks-room.ensures));
       };
       is = found.2;
     }

@@ -1,14 +1,14 @@
 use Rattle.std.proofs.Common.{◌≡◌, ◌+◌, ◌-◌, ◌≤◌, [], ◌∷◌, length, take, sym, refl, ap, ◌∙◌, arith}
 use Rattle.board.specs.Machines.{operand_letters, arity, leaf_total}
 use Rattle.processor.specs.Designs.{first_word}
-use Rattle.processor.proofs.Judging.{arity-is, leaf-total-is, leaves_limited, enough_wait, front_words}
+use Rattle.processor.proofs.Judging.{arity_is, leaf_total_is, leaves_limited, enough_wait, front_words}
 use Rattle.processor.proofs.requests.judging.judge_issue.Goals as goal
 
 pub overflow-sub-below : goal.overflow-sub-below
 overflow-sub-below g c =
     let found = c.in-ok-instruction.ensures in
     let o = found.by in
-    omega (arith, enough_wait c.args.waiting.now (operand_letters o) found.allowed.operands_wait, arity-is c.in-ok-instruction.instruction o found.is)
+    omega (arith, enough_wait c.args.waiting.now (operand_letters o) found.allowed.operands_wait, arity_is c.in-ok-instruction.instruction o found.is)
 
 pub first-word-requires : goal.first-word-requires
 first-word-requires g c =
@@ -22,7 +22,7 @@ pub invariant-of-result : goal.invariant-of-result
 invariant-of-result g c =
     let found = c.in-ok-instruction.ensures in
     let few : leaf_total found.by ≤ 1 = g.met.P.Processor.sound.one_payload c.args.opcode found.by found.allowed.is in
-    (refl, (omega (arith, leaf-total-is c.in-ok-instruction.instruction found.by found.is), tt))
+    (refl, (omega (arith, leaf_total_is c.in-ok-instruction.instruction found.by found.is), tt))
 
 pub returns : goal.returns
 returns g c =
@@ -33,8 +33,8 @@ returns g c =
     let w = c.args.waiting.now in
     let op = c.args.opcode in
     let few : leaf_total o ≤ 1 = g.met.P.Processor.sound.one_payload op o found.allowed.is in
-    let operands = arity-is i o found.is in
-    let leaves = leaf-total-is i o found.is in
+    let operands = arity_is i o found.is in
+    let leaves = leaf_total_is i o found.is in
     let first : c.first_word.result ≡ first_word d op (length w - arity o) (arity o) = c.first_word.ensures ∙ ap (λ n. first_word d op (length w - n) n) operands in
     record {
       by = o;

@@ -2,7 +2,7 @@ use Rattle.std.proofs.Common.{take}
 use Rattle.description.specs.Outlines.{emitted}
 use Rattle.reader.specs.Reading.{cycles_number}
 use Rattle.reader.specs.States.{draft_of}
-use Rattle.reader.proofs.Ruled.{one_pattern, rule_fits, rule-taken}
+use Rattle.reader.proofs.Ruled.{one_pattern, rule_fits, rule_taken}
 use Rattle.reader.proofs.progress.Progress.cycles.Goals as goal
 
 pub rule-of-rule-requires : goal.rule-of-rule-requires
@@ -18,4 +18,4 @@ unreachable-requires c =
 pub returns : goal.returns
 returns c =
     let x = c.args.word.now in
-    rule-taken c.args.self.now (draft_of c.args.draft) (emitted c.args.emission) c.args.size c.in-ok-cycles.cycles c.rule-of-rule.result c.add-rule.new.self x.token x.place c.rule-of-rule.ensures c.in-Ok.ensures c.in-ok-cycles.ensures
+    rule_taken c.args.self.now (draft_of c.args.draft) (emitted c.args.emission) c.args.size c.in-ok-cycles.cycles c.rule-of-rule.result c.add-rule.new.self x.token x.place c.rule-of-rule.ensures c.in-Ok.ensures c.in-ok-cycles.ensures

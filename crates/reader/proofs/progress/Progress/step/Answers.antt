@@ -4,7 +4,7 @@ use Rattle.reader.specs.declared.sketches.Sketch.{Sketch}
 use Rattle.reader.specs.declared.progress.Expect.TheVariants.{FirstPart, NextPart, Opening, AfterPart, AfterConstant}
 use Rattle.reader.specs.States.{awaits_of, bracket_of, draft_of, few_filled, stands}
 use Rattle.reader.specs.Soundness.{Sound}
-use Rattle.reader.proofs.Sounds.{few_at_item, few-after_item, few-after_constant, room_at_opening}
+use Rattle.reader.proofs.Sounds.{few_at_item, few_after_item, few_after_constant, room_at_opening}
 use Rattle.reader.proofs.progress.Progress.step.Goals as goal
 
 outer_brackets : (d : Sketch) → drop 1 (draft_of d).brackets ≡ map bracket_of (drop (d.top + 1) d.opened)
@@ -33,10 +33,10 @@ pub after-part-requires : goal.after-part-requires
 after-part-requires c =
     let d = c.in-AfterPart.draft in
     let sound = subst (λ e. Sound (stands c.args.self.now (awaits_of e))) c.in-AfterPart.is c.requires in
-    subst few_filled (outer_brackets d) (few-after_item _ (draft_of d) sound.0 sound.1)
+    subst few_filled (outer_brackets d) (few_after_item _ (draft_of d) sound.0 sound.1)
 
 pub after-constant-requires : goal.after-constant-requires
 after-constant-requires c =
     let d = c.in-AfterConstant.draft in
     let sound = subst (λ e. Sound (stands c.args.self.now (awaits_of e))) c.in-AfterConstant.is c.requires in
-    subst few_filled (outer_brackets d) (few-after_constant _ (draft_of d) sound.0 sound.1)
+    subst few_filled (outer_brackets d) (few_after_constant _ (draft_of d) sound.0 sound.1)

@@ -2,41 +2,41 @@ use Rattle.std.proofs.Common.{◌≡◌, [], ◌∷◌, map, take, sym, refl, ap
 use Rattle.description.specs.Outlines.{part_of}
 use Rattle.reader.specs.Reading.{operands_among, leaves_among}
 use Rattle.reader.specs.States.{draft_of}
-use Rattle.reader.proofs.Parts.{count-is, item-gained, operands_append, leaves-append, operands_few, leaves-few, limits-kept, too-many-items, too-many-operands, too-many-leaves}
+use Rattle.reader.proofs.Parts.{count_is, item_gained, operands_append, leaves_append, operands_few, leaves_few, limits_kept, too_many_items, too_many_operands, too_many_leaves}
 use Rattle.reader.proofs.sketches.Sketch.gain.Goals as goal
 use Rattle.reader.proofs.sketches.Sketch.gain.Goals.{then-self-eq-ITEM-LIMIT-via-then-self-eq-ITEM-LIMIT, then-self-eq-ITEM-LIMIT-via-else-self-eq-ITEM-LIMIT+then-operands-gt-OPERAND-LIMIT, then-self-eq-ITEM-LIMIT-via-else-self-eq-ITEM-LIMIT+else-operands-gt-OPERAND-LIMIT+then-leaves-gt-LEAF-LIMIT}
 
 pub overflow-add-operands : goal.overflow-add-operands
 overflow-add-operands c =
     let d = c.args.self in
-    omega (arith, operands_few (draft_of d).so_far, operands_few (part_of c.args.item ∷ []), count-is d.count d.items (omega arith))
+    omega (arith, operands_few (draft_of d).so_far, operands_few (part_of c.args.item ∷ []), count_is d.count d.items (omega arith))
 
 pub overflow-add-leaves : goal.overflow-add-leaves
 overflow-add-leaves c =
     let d = c.args.self in
-    omega (arith, leaves-few (draft_of d).so_far, leaves-few (part_of c.args.item ∷ []), count-is d.count d.items (omega arith))
+    omega (arith, leaves_few (draft_of d).so_far, leaves_few (part_of c.args.item ∷ []), count_is d.count d.items (omega arith))
 
 pub returns-then-self-eq-ITEM-LIMIT : goal.returns-then-self-eq-ITEM-LIMIT
 returns-then-self-eq-ITEM-LIMIT c =
     let d = c.args.self in
     let x = part_of c.args.item in
     elim c.then-self-eq-ITEM-LIMIT.branch [
-      | then-self-eq-ITEM-LIMIT-via-then-self-eq-ITEM-LIMIT w ↦ too-many-items (draft_of d).so_far x (omega (arith, w.if-self-eq-ITEM-LIMIT.true, count-is d.count d.items (omega arith)))
-      | then-self-eq-ITEM-LIMIT-via-else-self-eq-ITEM-LIMIT+then-operands-gt-OPERAND-LIMIT w ↦ too-many-operands (draft_of d).so_far x (omega (arith, w.if-operands-gt-OPERAND-LIMIT.true))
-      | then-self-eq-ITEM-LIMIT-via-else-self-eq-ITEM-LIMIT+else-operands-gt-OPERAND-LIMIT+then-leaves-gt-LEAF-LIMIT w ↦ too-many-leaves (draft_of d).so_far x (omega (arith, w.if-leaves-gt-LEAF-LIMIT.true))
+      | then-self-eq-ITEM-LIMIT-via-then-self-eq-ITEM-LIMIT w ↦ too_many_items (draft_of d).so_far x (omega (arith, w.if-self-eq-ITEM-LIMIT.true, count_is d.count d.items (omega arith)))
+      | then-self-eq-ITEM-LIMIT-via-else-self-eq-ITEM-LIMIT+then-operands-gt-OPERAND-LIMIT w ↦ too_many_operands (draft_of d).so_far x (omega (arith, w.if-operands-gt-OPERAND-LIMIT.true))
+      | then-self-eq-ITEM-LIMIT-via-else-self-eq-ITEM-LIMIT+else-operands-gt-OPERAND-LIMIT+then-leaves-gt-LEAF-LIMIT w ↦ too_many_leaves (draft_of d).so_far x (omega (arith, w.if-leaves-gt-LEAF-LIMIT.true))
     ]
 
 pub invariant-of-self : goal.invariant-of-self
 invariant-of-self c =
     let d = c.args.self in
-    let more = item-gained d.count d.items c.args.item (omega arith) in (
+    let more = item_gained d.count d.items c.args.item (omega arith) in (
       length-set d.items _ _ ∙ d.item_room,
       (
         omega arith,
         (
           omega (arith, ap operands_among more, operands_append (draft_of d).so_far (part_of c.args.item ∷ [])),
           (
-            omega (arith, ap leaves_among more, leaves-append (draft_of d).so_far (part_of c.args.item ∷ [])),
+            omega (arith, ap leaves_among more, leaves_append (draft_of d).so_far (part_of c.args.item ∷ [])),
             (d.bracket_room, (d.inside, tt)),
           ),
         ),
@@ -46,7 +46,7 @@ invariant-of-self c =
 pub returns : goal.returns
 returns c =
     let d = c.args.self in
-    let more = item-gained d.count d.items c.args.item (omega arith) in (
-      limits-kept (draft_of d).so_far (part_of c.args.item) (omega (arith, count-is d.count d.items (omega arith))) (omega arith) (omega arith),
+    let more = item_gained d.count d.items c.args.item (omega arith) in (
+      limits_kept (draft_of d).so_far (part_of c.args.item) (omega (arith, count_is d.count d.items (omega arith))) (omega arith) (omega arith),
       λ i. record { left_name = d.left; so_far = more i; brackets = (draft_of d).brackets },
     )

@@ -1,6 +1,6 @@
 use Rattle.std.proofs.Common.{take, sym, refl, subst, arith, length-set}
 use Rattle.processor.specs.Boards.{Belongs}
-use Rattle.processor.proofs.Writing.{wrote_one, rest-one}
+use Rattle.processor.proofs.Writing.{wrote_one, rest_one}
 use Rattle.reg.specs.Designs.{reg_design}
 use Rattle.reg.proofs.boards.Reg.push_one.Goals as goal
 
@@ -13,7 +13,7 @@ pub returns : goal.returns
 returns c =
     let b = c.args.self.now in
     record {
-      wrote = record { words_gained = wrote_one b.memory.now b.len c.args.first c.requires.room; rest_kept = rest-one b.memory.now b.len c.args.first };
+      wrote = record { words_gained = wrote_one b.memory.now b.len c.args.first c.requires.room; rest_kept = rest_one b.memory.now b.len c.args.first };
       waits = refl;
       ends = refl;
       as_long = length-set b.memory.now b.len c.args.first;

@@ -1,6 +1,6 @@
 use Rattle.std.proofs.Common.{◌+◌, take, set, sym, refl, ◌∙◌, subst, arith, length-set}
 use Rattle.processor.specs.Boards.{Belongs}
-use Rattle.processor.proofs.Writing.{unwritten, wrote-two, rest-two}
+use Rattle.processor.proofs.Writing.{unwritten, wrote_two, rest_two}
 use Rattle.reg.specs.Boards.{waiting_places}
 use Rattle.reg.specs.Designs.{reg_design}
 use Rattle.reg.proofs.boards.Reg.push_two.Goals as goal
@@ -14,14 +14,14 @@ pub invariant-of-self-2 : goal.invariant-of-self-2
 invariant-of-self-2 c =
     let b = c.args.self.now in
     let mem = b.memory.now in
-    (omega (arith, length-set mem b.len c.args.first, length-set (set mem b.len c.args.first) (b.len + 1) c.args.payload, c.requires.room), (c.requires.sized, (c.requires.shallow, (subst (λ ws. Belongs reg_design ws (take c.args.depth c.args.waiting)) (sym (wrote-two mem b.len c.args.first c.args.payload c.requires.room)) c.requires.belongs, tt))))
+    (omega (arith, length-set mem b.len c.args.first, length-set (set mem b.len c.args.first) (b.len + 1) c.args.payload, c.requires.room), (c.requires.sized, (c.requires.shallow, (subst (λ ws. Belongs reg_design ws (take c.args.depth c.args.waiting)) (sym (wrote_two mem b.len c.args.first c.args.payload c.requires.room)) c.requires.belongs, tt))))
 
 pub returns : goal.returns
 returns c =
     let b = c.args.self.now in
     let mem = b.memory.now in
     record {
-      wrote = record { words_gained = wrote-two mem b.len c.args.first c.args.payload c.requires.room; rest_kept = rest-two mem b.len c.args.first c.args.payload };
+      wrote = record { words_gained = wrote_two mem b.len c.args.first c.args.payload c.requires.room; rest_kept = rest_two mem b.len c.args.first c.args.payload };
       waits = refl;
       ends = refl;
       as_long = length-set (set mem b.len c.args.first) (b.len + 1) c.args.payload ∙ length-set mem b.len c.args.first;

@@ -36,8 +36,8 @@ loop-item-preserved c =
           let ahead = operand_ahead xs i x a c.loop-item-test.true c.item-item.is w.in-Operand.is in
           let more = ap count_of_operands ahead in (
             ap length w.values-is ∙ length-set vs n _ ∙ inv.0,
-            omega (arith, w.count-is, more, inv.1),
-            (λ k. take (w.count-is k) ((w.values-is ∙ ap (set vs n) w.register.ensures) k) ++ registers_from (from + w.count-is k) (operand_list rest) own)
+            omega (arith, w.count_is, more, inv.1),
+            (λ k. take (w.count_is k) ((w.values-is ∙ ap (set vs n) w.register.ensures) k) ++ registers_from (from + w.count_is k) (operand_list rest) own)
                 ∙ registers_more vs n from a (operand_list rest) own (omega (arith, more, inv.0, inv.1, c.requires.0))
                 ∙ ap (λ ys. take n vs ++ registers_from (from + n) (operand_list ys) own) (sym ahead)
                 ∙ inv.2,
@@ -46,8 +46,8 @@ loop-item-preserved c =
           let none = no_operand x rest w.in-default.not-Operand in
           let ahead = step (λ ys. ys) xs i x c.loop-item-test.true c.item-item.is in (
             ap length w.values-is ∙ inv.0,
-            omega (arith, w.count-is, ap count_of_operands ahead, none.0, inv.1),
-            (λ k. take (w.count-is k) (w.values-is k) ++ registers_from (from + w.count-is k) (sym none.1 k) own)
+            omega (arith, w.count_is, ap count_of_operands ahead, none.0, inv.1),
+            (λ k. take (w.count_is k) (w.values-is k) ++ registers_from (from + w.count_is k) (sym none.1 k) own)
                 ∙ ap (λ ys. take n vs ++ registers_from (from + n) (operand_list ys) own) (sym ahead)
                 ∙ inv.2,
           )

@@ -1,5 +1,5 @@
 use Rattle.std.proofs.Common.{sym}
-use Rattle.reg.proofs.Banks.{address_read, data-read}
+use Rattle.reg.proofs.Banks.{address_read, data_read}
 use Rattle.reg.proofs.processor.RegisterProcessor.register.Goals as goal
 
 pub returns-then-letter-eq-ADDRESS : goal.returns-then-letter-eq-ADDRESS
@@ -10,4 +10,4 @@ returns-then-letter-eq-ADDRESS c =
 pub returns-else-letter-eq-ADDRESS : goal.returns-else-letter-eq-ADDRESS
 returns-else-letter-eq-ADDRESS c =
     let p = c.args.self.now in
-    sym (data-read p.«data» p.address p.data_sized c.args.letter c.args.number c.if-letter-eq-ADDRESS.false c.requires)
+    sym (data_read p.«data» p.address p.data_sized c.args.letter c.args.number c.if-letter-eq-ADDRESS.false c.requires)

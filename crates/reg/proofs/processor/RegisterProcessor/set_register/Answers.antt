@@ -1,13 +1,13 @@
 use Rattle.std.proofs.Common.{sym}
-use Rattle.reg.proofs.Banks.{address-set, data-set}
+use Rattle.reg.proofs.Banks.{address_set, data_set}
 use Rattle.reg.proofs.processor.RegisterProcessor.set_register.Goals as goal
 
 pub returns-then-letter-eq-ADDRESS : goal.returns-then-letter-eq-ADDRESS
 returns-then-letter-eq-ADDRESS c =
     let p = c.args.self.now in
-    sym (address-set p.«data» p.address p.data_sized c.args.letter c.args.number c.if-letter-eq-ADDRESS.true c.args.value)
+    sym (address_set p.«data» p.address p.data_sized c.args.letter c.args.number c.if-letter-eq-ADDRESS.true c.args.value)
 
 pub returns-else-letter-eq-ADDRESS : goal.returns-else-letter-eq-ADDRESS
 returns-else-letter-eq-ADDRESS c =
     let p = c.args.self.now in
-    sym (data-set p.«data» p.address p.data_sized c.args.letter c.args.number c.if-letter-eq-ADDRESS.false c.requires c.args.value)
+    sym (data_set p.«data» p.address p.data_sized c.args.letter c.args.number c.if-letter-eq-ADDRESS.false c.requires c.args.value)

@@ -7,7 +7,7 @@ use Rattle.board.specs.Instructions.{operand_list}
 use Rattle.processor.proofs.Judging.{operands_are}
 use Rattle.processor.proofs.Steps.{asked_at}
 use Rattle.reg.specs.Designs.{slot, registers_from, i_of, reg_design}
-use Rattle.reg.proofs.Placing.{placed-within}
+use Rattle.reg.proofs.Placing.{placed_within}
 use Rattle.reg.proofs.Items.{whole_items, few_operands}
 use Rattle.reg.proofs.processor.RegisterProcessorProcessor.apply.Goals as goal
 
@@ -20,13 +20,13 @@ pub operands-operands-requires : goal.operands-operands-requires
 operands-operands-requires c =
     let m = c.args.instruction.now.meaning in
     let count = m.counted ∙ ap count_of_operands (sym (whole_items m)) in
-    let within = placed-within c.args.first m.operands (few_operands m) (sym c.if-misplaced.ensures) in
+    let within = placed_within c.args.first m.operands (few_operands m) (sym c.if-misplaced.ensures) in
     (omega (arith, count, few_operands m), omega (arith, count, within.1, c.result-depth-depth.ensures))
 
 pub set-register-requires : goal.set-register-requires
 set-register-requires c =
     let m = c.args.instruction.now.meaning in
-    omega (arith, c.result-depth-depth.ensures, (placed-within c.args.first m.operands (few_operands m) (sym c.if-misplaced.ensures)).0)
+    omega (arith, c.result-depth-depth.ensures, (placed_within c.args.first m.operands (few_operands m) (sym c.if-misplaced.ensures)).0)
 
 pub returns : goal.returns
 returns c o is =

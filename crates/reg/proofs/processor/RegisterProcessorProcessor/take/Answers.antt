@@ -1,12 +1,12 @@
 use Rattle.std.proofs.Common.{◌++◌, get_or, sym, refl, ap, ◌∙◌, arith}
 use Rattle.reg.specs.Table.{data_place}
 use Rattle.reg.specs.Designs.{slot}
-use Rattle.reg.proofs.Placing.{placed-within}
+use Rattle.reg.proofs.Placing.{placed_within}
 use Rattle.reg.proofs.processor.RegisterProcessorProcessor.take.Goals as goal
 
 pub register-requires : goal.register-requires
 register-requires c =
-    omega (arith, c.result-depth.ensures, (placed-within c.args.first 1 (omega arith) (sym c.if-misplaced.ensures)).0)
+    omega (arith, c.result-depth.ensures, (placed_within c.args.first 1 (omega arith) (sym c.if-misplaced.ensures)).0)
 
 pub returns : goal.returns
 returns c =

@@ -1,7 +1,7 @@
 use Rattle.std.proofs.Common.{◌+◌, ◌-◌, length, take, sym, refl, ap, ◌∙◌, subst, arith, below_more}
 use Rattle.std.proofs.lemmas.List.{take_all}
 use Rattle.tree.specs.Statements.{Faulty, standing, faulty, no_tree, parts_taken, node_at}
-use Rattle.tree.proofs.Conditions.{none-11, standing_more}
+use Rattle.tree.proofs.Conditions.{none_11, standing_more}
 use Rattle.tree.proofs.checked.check.malformed.Goals as goal
 
 pub returns-in-None : goal.returns-in-None
@@ -27,7 +27,7 @@ loop-i-preserved c =
 pub returns-then-standing-eq1 : goal.returns-then-standing-eq1
 returns-then-standing-eq1 c =
     let xs = c.args.statement.nodes.now in
-    none-11 c.args.statement.target xs
+    none_11 c.args.statement.target xs
     (λ j h. c.loop-i.invariant.0 j (omega arith))
     (ap (standing 0) (sym (take_all c.loop-i.i xs c.loop-i-test.false)) ∙ sym c.loop-i.invariant.1 ∙ c.if-standing-eq1.true)
 

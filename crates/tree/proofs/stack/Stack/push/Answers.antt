@@ -1,6 +1,6 @@
 use Rattle.std.proofs.Common.{refl, arith, length-drop}
 use Rattle.std.proofs.lemmas.List.{drop_all}
-use Rattle.tree.proofs.Stacks.{entries-more, beyond-more}
+use Rattle.tree.proofs.Stacks.{entries_more, beyond_more}
 use Rattle.tree.proofs.stack.Stack.push.Goals as goal
 
 pub returns-then-self : goal.returns-then-self
@@ -10,4 +10,4 @@ pub returns : goal.returns
 returns g c =
     let xs = c.args.self.now.memory.now in
     let n = c.args.self.now.len in
-    record { had-room = simp length-drop (omega arith); entries = entries-more xs n _ (omega arith); untouched = beyond-more xs n _ }
+    record { had_room = simp length-drop (omega arith); entries = entries_more xs n _ (omega arith); untouched = beyond_more xs n _ }

@@ -1,6 +1,6 @@
 use Rattle.std.proofs.Common.{[], ◌∷◌, get_or, refl, ◌∙◌, arith, length-set}
-use Rattle.processor.proofs.Emissions.{one_word, two-words}
-use Rattle.reg.proofs.Growth.{issue-some, issue-fits, issue-shallow, issue-grows, issue-done, issue-wrote}
+use Rattle.processor.proofs.Emissions.{one_word, two_words}
+use Rattle.reg.proofs.Growth.{issue_some, issue_fits, issue_shallow, issue_grows, issue_done, issue_wrote}
 use Rattle.reg.proofs.boards.calls.RegBoard.issue.Goals as goal
 
 pub push-one-requires : goal.push-one-requires
@@ -10,9 +10,9 @@ push-one-requires c =
     let judged = c.in-ok-emission.ensures in
     record {
       sized = length-set b.waiting e.below e.result ∙ b.sized;
-      room = omega (arith, issue-fits b c.args.opcode c.args.first c.args.second e judged, c.if-emission-eq1.true);
-      shallow = issue-shallow b c.args.opcode c.args.first c.args.second e judged;
-      belongs = issue-grows b c.args.opcode c.args.first c.args.second e judged (get_or e.words 0 0 ∷ []) (one_word e c.if-emission-eq1.true);
+      room = omega (arith, issue_fits b c.args.opcode c.args.first c.args.second e judged, c.if-emission-eq1.true);
+      shallow = issue_shallow b c.args.opcode c.args.first c.args.second e judged;
+      belongs = issue_grows b c.args.opcode c.args.first c.args.second e judged (get_or e.words 0 0 ∷ []) (one_word e c.if-emission-eq1.true);
     }
 
 pub returns-then-emission-eq1 : goal.returns-then-emission-eq1
@@ -23,8 +23,8 @@ returns-then-emission-eq1 c =
     let words = one_word e c.if-emission-eq1.true in
     record {
       fixed = refl;
-      outcome = issue-done b c.args.opcode c.args.first c.args.second e judged _ words c.push-one.new.self c.push-one.ensures;
-      memory = issue-wrote b c.args.opcode c.args.first c.args.second e judged _ words c.push-one.new.self c.push-one.ensures;
+      outcome = issue_done b c.args.opcode c.args.first c.args.second e judged _ words c.push-one.new.self c.push-one.ensures;
+      memory = issue_wrote b c.args.opcode c.args.first c.args.second e judged _ words c.push-one.new.self c.push-one.ensures;
     }
 
 pub push-two-requires : goal.push-two-requires
@@ -32,12 +32,12 @@ push-two-requires c =
     let b = c.args.self.now in
     let e = c.in-ok-emission.emission in
     let judged = c.in-ok-emission.ensures in
-    let some = issue-some b c.args.opcode c.args.first c.args.second e judged in
+    let some = issue_some b c.args.opcode c.args.first c.args.second e judged in
     record {
       sized = length-set b.waiting e.below e.result ∙ b.sized;
-      room = omega (arith, some, issue-fits b c.args.opcode c.args.first c.args.second e judged, c.if-emission-eq1.false);
-      shallow = issue-shallow b c.args.opcode c.args.first c.args.second e judged;
-      belongs = issue-grows b c.args.opcode c.args.first c.args.second e judged (get_or e.words 0 0 ∷ get_or e.words 1 0 ∷ []) (two-words e some c.if-emission-eq1.false);
+      room = omega (arith, some, issue_fits b c.args.opcode c.args.first c.args.second e judged, c.if-emission-eq1.false);
+      shallow = issue_shallow b c.args.opcode c.args.first c.args.second e judged;
+      belongs = issue_grows b c.args.opcode c.args.first c.args.second e judged (get_or e.words 0 0 ∷ get_or e.words 1 0 ∷ []) (two_words e some c.if-emission-eq1.false);
     }
 
 pub returns : goal.returns
@@ -45,9 +45,9 @@ returns c =
     let b = c.args.self.now in
     let e = c.in-ok-emission.emission in
     let judged = c.in-ok-emission.ensures in
-    let words = two-words e (issue-some b c.args.opcode c.args.first c.args.second e judged) c.if-emission-eq1.false in
+    let words = two_words e (issue_some b c.args.opcode c.args.first c.args.second e judged) c.if-emission-eq1.false in
     record {
       fixed = refl;
-      outcome = issue-done b c.args.opcode c.args.first c.args.second e judged _ words c.push-two.new.self c.push-two.ensures;
-      memory = issue-wrote b c.args.opcode c.args.first c.args.second e judged _ words c.push-two.new.self c.push-two.ensures;
+      outcome = issue_done b c.args.opcode c.args.first c.args.second e judged _ words c.push-two.new.self c.push-two.ensures;
+      memory = issue_wrote b c.args.opcode c.args.first c.args.second e judged _ words c.push-two.new.self c.push-two.ensures;
     }

@@ -3,7 +3,7 @@ use Rattle.processor.specs.Boards.{Belongs}
 use Rattle.processor.proofs.Emissions.{pair_of}
 use Rattle.reg.specs.Boards.{code_words, Grew}
 use Rattle.reg.specs.Designs.{reg_design}
-use Rattle.reg.proofs.Growth.{store-grows, store-done, store_wrote}
+use Rattle.reg.proofs.Growth.{store_grows, store_done, store_wrote}
 use Rattle.reg.proofs.boards.calls.RegBoard.store.Goals as goal
 
 pub push-two-requires : goal.push-two-requires
@@ -15,7 +15,7 @@ push-two-requires c =
       sized = b.sized;
       room = omega (arith, judged.allowed.room);
       shallow = omega (arith, b.shallow);
-      belongs = subst (λ us. Belongs reg_design (code_words b ++ us) (take (b.depth - 1) b.waiting)) (pair_of ws (ap length judged.words_are)) (store-grows b c.args.variable ws judged);
+      belongs = subst (λ us. Belongs reg_design (code_words b ++ us) (take (b.depth - 1) b.waiting)) (pair_of ws (ap length judged.words_are)) (store_grows b c.args.variable ws judged);
     }
 
 pub returns : goal.returns
@@ -27,6 +27,6 @@ returns c =
     let grew = subst (λ us. Grew b us (take (b.depth - 1) b.waiting) after) (sym (pair_of ws (ap length judged.words_are))) c.push-two.ensures in
     record {
       fixed = refl;
-      outcome = store-done b c.args.variable ws judged after grew;
+      outcome = store_done b c.args.variable ws judged after grew;
       memory = store_wrote b c.args.variable ws judged after grew;
     }

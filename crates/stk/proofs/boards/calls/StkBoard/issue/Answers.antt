@@ -2,9 +2,9 @@ use Rattle.std.proofs.Common.{[], ◌∷◌, get_or, refl, subst, arith}
 use Rattle.std.proofs.lemmas.Result.{err_from_is_err_and}
 use Rattle.board.specs.Faults.{board_number, board_place}
 use Rattle.processor.specs.Requests.{Emits, IssueRefused}
-use Rattle.processor.proofs.Emissions.{one_word, two-words}
+use Rattle.processor.proofs.Emissions.{one_word, two_words}
 use Rattle.stk.specs.Designs.{stk_design}
-use Rattle.stk.proofs.Growth.{room_in, issue-some, issue-fits, issue-shallow, issue-grows, issue-done, issue-wrote}
+use Rattle.stk.proofs.Growth.{room_in, issue_some, issue_fits, issue_shallow, issue_grows, issue_done, issue_wrote}
 use Rattle.stk.proofs.boards.calls.StkBoard.issue.Goals as goal
 
 pub returns-in-err-emission : goal.returns-in-err-emission
@@ -20,9 +20,9 @@ push-one-requires c =
     let e = c.in-ok-emission.emission in
     let em = subst (λ w. Emits stk_design w (room_in b) c.args.opcode c.args.first c.args.second e) c.places-waiting.ensures c.in-ok-emission.ensures in
     record {
-      room = omega (arith, issue-fits b c.args.opcode c.args.first c.args.second e em, c.if-emission-eq1.true);
-      shallow = issue-shallow b c.args.opcode c.args.first c.args.second e em;
-      belongs = issue-grows b c.args.opcode c.args.first c.args.second e em (get_or e.words 0 0 ∷ []) (one_word e c.if-emission-eq1.true);
+      room = omega (arith, issue_fits b c.args.opcode c.args.first c.args.second e em, c.if-emission-eq1.true);
+      shallow = issue_shallow b c.args.opcode c.args.first c.args.second e em;
+      belongs = issue_grows b c.args.opcode c.args.first c.args.second e em (get_or e.words 0 0 ∷ []) (one_word e c.if-emission-eq1.true);
     }
 
 pub returns-then-emission-eq1 : goal.returns-then-emission-eq1
@@ -33,8 +33,8 @@ returns-then-emission-eq1 c =
     let words = one_word e c.if-emission-eq1.true in
     record {
       fixed = refl;
-      outcome = issue-done b c.args.opcode c.args.first c.args.second e em _ words c.push-one.new.self c.push-one.ensures;
-      memory = issue-wrote b c.args.opcode c.args.first c.args.second e em _ words c.push-one.new.self c.push-one.ensures;
+      outcome = issue_done b c.args.opcode c.args.first c.args.second e em _ words c.push-one.new.self c.push-one.ensures;
+      memory = issue_wrote b c.args.opcode c.args.first c.args.second e em _ words c.push-one.new.self c.push-one.ensures;
     }
 
 pub push-two-requires : goal.push-two-requires
@@ -42,11 +42,11 @@ push-two-requires c =
     let b = c.args.self.now in
     let e = c.in-ok-emission.emission in
     let em = subst (λ w. Emits stk_design w (room_in b) c.args.opcode c.args.first c.args.second e) c.places-waiting.ensures c.in-ok-emission.ensures in
-    let some = issue-some b c.args.opcode c.args.first c.args.second e em in
+    let some = issue_some b c.args.opcode c.args.first c.args.second e em in
     record {
-      room = omega (arith, some, issue-fits b c.args.opcode c.args.first c.args.second e em, c.if-emission-eq1.false);
-      shallow = issue-shallow b c.args.opcode c.args.first c.args.second e em;
-      belongs = issue-grows b c.args.opcode c.args.first c.args.second e em (get_or e.words 0 0 ∷ get_or e.words 1 0 ∷ []) (two-words e some c.if-emission-eq1.false);
+      room = omega (arith, some, issue_fits b c.args.opcode c.args.first c.args.second e em, c.if-emission-eq1.false);
+      shallow = issue_shallow b c.args.opcode c.args.first c.args.second e em;
+      belongs = issue_grows b c.args.opcode c.args.first c.args.second e em (get_or e.words 0 0 ∷ get_or e.words 1 0 ∷ []) (two_words e some c.if-emission-eq1.false);
     }
 
 pub returns : goal.returns
@@ -54,9 +54,9 @@ returns c =
     let b = c.args.self.now in
     let e = c.in-ok-emission.emission in
     let em = subst (λ w. Emits stk_design w (room_in b) c.args.opcode c.args.first c.args.second e) c.places-waiting.ensures c.in-ok-emission.ensures in
-    let words = two-words e (issue-some b c.args.opcode c.args.first c.args.second e em) c.if-emission-eq1.false in
+    let words = two_words e (issue_some b c.args.opcode c.args.first c.args.second e em) c.if-emission-eq1.false in
     record {
       fixed = refl;
-      outcome = issue-done b c.args.opcode c.args.first c.args.second e em _ words c.push-two.new.self c.push-two.ensures;
-      memory = issue-wrote b c.args.opcode c.args.first c.args.second e em _ words c.push-two.new.self c.push-two.ensures;
+      outcome = issue_done b c.args.opcode c.args.first c.args.second e em _ words c.push-two.new.self c.push-two.ensures;
+      memory = issue_wrote b c.args.opcode c.args.first c.args.second e em _ words c.push-two.new.self c.push-two.ensures;
     }

@@ -2,7 +2,7 @@ use Rattle.std.proofs.Common.{sym, subst}
 use Rattle.board.specs.Acts.{RunFails}
 use Rattle.processor.specs.Faults.{simulator_number, simulator_place}
 use Rattle.processor.specs.Simulations.{SimulationDenied}
-use Rattle.processor.proofs.Keeping.{run-refused}
+use Rattle.processor.proofs.Keeping.{run_refused}
 use Rattle.stk.specs.Boards.{code_words, waiting_places}
 use Rattle.stk.specs.Designs.{stk_design}
 use Rattle.stk.specs.Soundness.{stk_sound}
@@ -15,4 +15,4 @@ returns-in-Err c =
     let f = c.in-Err.fault in
     let denied = c.in-Err.ensures in
     let as-held = subst (λ ws. SimulationDenied stk_design ws σ (simulator_number f) (simulator_place f)) c.words.ensures.value denied.1 in
-    (denied.0, subst (λ p. RunFails σ 34 p) (sym c.place.ensures) (run-refused stk_design stk_sound (code_words b) (waiting_places b) b.belongs σ (simulator_number f) (simulator_place f) as-held))
+    (denied.0, subst (λ p. RunFails σ 34 p) (sym c.place.ensures) (run_refused stk_design stk_sound (code_words b) (waiting_places b) b.belongs σ (simulator_number f) (simulator_place f) as-held))

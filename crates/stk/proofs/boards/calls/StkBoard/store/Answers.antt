@@ -7,7 +7,7 @@ use Rattle.processor.specs.Boards.{Belongs}
 use Rattle.stk.specs.Boards.{code_words, Grew}
 use Rattle.stk.specs.Designs.{stk_design}
 use Rattle.stk.specs.Table.{stack_place}
-use Rattle.stk.proofs.Growth.{room_in, store-grows, store-done, store_wrote}
+use Rattle.stk.proofs.Growth.{room_in, store_grows, store_done, store_wrote}
 use Rattle.stk.proofs.boards.calls.StkBoard.store.Goals as goal
 
 pub returns-in-err-words : goal.returns-in-err-words
@@ -24,7 +24,7 @@ push-two-requires c =
     record {
       room = omega (arith, em.allowed.room);
       shallow = omega (arith, b.shallow);
-      belongs = subst (λ us. Belongs stk_design (code_words b ++ us) (replicate (b.depth - 1) stack_place)) (pair_of ws (ap length em.words_are)) (store-grows b c.args.variable ws em);
+      belongs = subst (λ us. Belongs stk_design (code_words b ++ us) (replicate (b.depth - 1) stack_place)) (pair_of ws (ap length em.words_are)) (store_grows b c.args.variable ws em);
     }
 
 pub returns : goal.returns
@@ -35,6 +35,6 @@ returns c =
     let grew = subst (λ us. Grew b us (b.depth - 1) c.push-two.new.self) (sym (pair_of ws (ap length em.words_are))) c.push-two.ensures in
     record {
       fixed = refl;
-      outcome = store-done b c.args.variable ws em c.push-two.new.self grew;
+      outcome = store_done b c.args.variable ws em c.push-two.new.self grew;
       memory = store_wrote b c.args.variable ws em c.push-two.new.self grew;
     }

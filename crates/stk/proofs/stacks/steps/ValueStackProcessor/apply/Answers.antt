@@ -3,7 +3,7 @@ use Rattle.std.proofs.lemmas.List.{length-take-le, take_more_set}
 use Rattle.pattern.specs.Shapes.{shape_value}
 use Rattle.board.specs.Machines.{arity}
 use Rattle.board.specs.Acts.{last_of, before_last}
-use Rattle.processor.proofs.Judging.{arity-is}
+use Rattle.processor.proofs.Judging.{arity_is}
 use Rattle.processor.proofs.Steps.{asked_at}
 use Rattle.stk.specs.Designs.{stk_design}
 use Rattle.stk.specs.Stacks.{stacked}
@@ -26,4 +26,4 @@ returns c o is =
     let whole : s.len ≤ length s.values = omega (arith, s.sized, s.within) in
     take_more_set s.values (s.len - n) v (omega (arith, s.sized))
     ∙ (λ j. sym (below_last s.values s.len n whole enough) j ++ (c.value-value.ensures o.shape (sym is.meaning_is) ∙ ap (λ vs. shape_value o.shape vs c.args.payloads.now c.args.setting.now) (sym (lasts s.values s.len n whole enough))) j ∷ [])
-    ∙ ap (λ k. before_last k (stacked s) ++ shape_value o.shape (last_of k (stacked s)) c.args.payloads.now c.args.setting.now ∷ []) (arity-is i o is)
+    ∙ ap (λ k. before_last k (stacked s) ++ shape_value o.shape (last_of k (stacked s)) c.args.payloads.now c.args.setting.now ∷ []) (arity_is i o is)
