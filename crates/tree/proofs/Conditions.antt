@@ -1,8 +1,8 @@
 -- The conditions of a statement's refusals: one node more, and the order of the checks.
-use Rattle.std.proofs.Common.{◌≡◌, ℕ, ◌+◌, ◌-◌, ◌<◌, ◌≤◌, ◌⊎◌, List, [], ◌∷◌, ◌++◌, length, get_or, take, sym, refl, ap, ◌∙◌, subst, inl, inr, ⊎_elim, arith}
-use Rattle.std.proofs.lemmas.List.{take_more, take_all}
+use Rattle.std.proofs.Common.{◌≡◌, ℕ, ◌+◌, ◌-◌, ◌<◌, ◌≤◌, List, [], ◌∷◌, ◌++◌, length, take, refl, ap, ◌∙◌, arith}
+use Rattle.std.proofs.lemmas.List.{take_more}
 use Rattle.tree.specs.declared.nodes.Node.{Node}
-use Rattle.tree.specs.Refusals.{RefusedBy, GrantedBy, FirstBelow, NoneBelow, turn_of}
+use Rattle.tree.specs.Refusals.{NoneBelow, turn_of}
 use Rattle.tree.specs.Statements.{StatementFails, StatementDenied, StatementGranted, FaultyAt, VariableOver, standing, parts_taken, node_at, too_many, faulty, no_tree, variable_over, target_over, statement_order}
 
 standing_push : (n : ℕ) (xs : List Node) (x : Node) → standing n (xs ++ x ∷ []) ≡ standing n xs - parts_taken x + 1

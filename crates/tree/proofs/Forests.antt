@@ -1,17 +1,14 @@
 -- A list of nodes read from the left: the trees that stand side by side after it, the newest first.
 -- From this: a list is the postfix of at most one tree, and exactly the lists without a fault are.
-use Rattle.std.proofs.Common.{◌≡◌, ℕ, zero, suc, ◌+◌, ◌-◌, ◌<◌, ◌≤◌, ◌⊎◌, List, [], ◌∷◌, ◌++◌, map, length, get_or, take, Some, None, Option, sym, refl, ap, ◌∙◌, subst, inl, inr, ⊎_elim, append_assoc, append-nil, arith, length-append}
+use Rattle.std.proofs.Common.{◌≡◌, ℕ, zero, suc, ◌+◌, ◌-◌, ◌<◌, ◌≤◌, List, [], ◌∷◌, ◌++◌, length, take, Some, None, Option, sym, refl, ap, ◌∙◌, subst, append_assoc, append-nil, arith, length-append}
 use native.Mathlib.Decide.{ℕ_discrete}
-use Rattle.operators.specs.declared.Unary.{Unary}
-use Rattle.operators.specs.declared.Binary.{Binary}
 use Rattle.operators.specs.declared.Operator.{Operator}
 use Rattle.operators.specs.declared.Operator.TheVariants.{Cnst, Var, One, Two}
 use Rattle.tree.specs.declared.nodes.Node.{Node}
-use Rattle.operators.specs.Operators.{operator_number, operator_of}
+use Rattle.operators.specs.Operators.{operator_of}
 use Rattle.operators.proofs.Numbers.{operator_of_number, number_of_operator}
 use Rattle.tree.specs.Trees.{Tree, cnst, var, one, two, node_count, node_of, postfix}
-use Rattle.tree.specs.Statements.{Faulty, unknown, lacks_part, has_payload, parts_of, parts_taken, standing, node_at, FaultyAt, OneTreeAtMost}
-use Rattle.tree.specs.Refusals.{NoneBelow}
+use Rattle.tree.specs.Statements.{Faulty, unknown, lacks_part, has_payload, parts_of, parts_taken, standing, node_at, OneTreeAtMost}
 
 -- the newest tree, and the others
 abbrev pub newest : List Tree → Tree

@@ -1,18 +1,18 @@
 -- A statement is granted exactly if its nodes are the postfix of a tree within the limits.
-use Rattle.std.proofs.Common.{◌≡◌, ℕ, zero, suc, ◌+◌, ◌-◌, ◌<◌, ◌≤◌, List, [], ◌∷◌, ◌++◌, length, get_or, take, Some, sym, refl, ap, ◌∙◌, subst, arith}
+use Rattle.std.proofs.Common.{◌≡◌, ℕ, zero, suc, ◌<◌, ◌≤◌, List, [], ◌∷◌, ◌++◌, length, Some, sym, refl, ap, ◌∙◌, subst, arith}
 use native.Mathlib.Decide.{dec_lt}
-use Rattle.std.specs.List.{AllByRecursion as All}
+use Rattle.std.specs.List.{AllByRecursion}
 use Rattle.std.proofs.ByRecursion.{All-get_or, All-from_get_or, All-append}
 use Rattle.operators.specs.declared.Operator.{Operator}
-use Rattle.operators.specs.declared.Operator.TheVariants.{Cnst, Var, One, Two}
+use Rattle.operators.specs.declared.Operator.TheVariants.{Var, One, Two}
 use Rattle.tree.specs.declared.nodes.Node.{Node}
 use Rattle.operators.specs.Operators.{operator_number, operator_of}
-use Rattle.tree.specs.Trees.{Tree, cnst, var, one, two, node_count, node_of, postfix, VariablesWithin}
+use Rattle.tree.specs.Trees.{Tree, cnst, var, one, two, node_count, postfix, VariablesWithin}
 use Rattle.tree.specs.Refusals.{FirstBelow, NoneBelow}
-use Rattle.tree.specs.Statements.{StatementFails, StatementGranted, Stands, GrantedIsTree, FaultyAt, VariableOver, standing, parts_of, node_at, too_many, faulty, no_tree, variable_over, target_over}
+use Rattle.tree.specs.Statements.{StatementGranted, Stands, GrantedIsTree, FaultyAt, VariableOver, standing, parts_of, too_many, faulty, no_tree, variable_over, target_over}
 use Rattle.operators.proofs.Numbers.{operator_of_number}
 use Rattle.tree.proofs.Conditions.{none_11, none_13, granted}
-use Rattle.tree.proofs.Forests.{newest, forest, flat, Clean, clean_below, below_clean, stood, postfix_clean, standing-postfix, length-postfix, at_least, equal_from}
+use Rattle.tree.proofs.Forests.{newest, forest, flat, clean_below, below_clean, stood, postfix_clean, standing-postfix, length-postfix, at_least, equal_from}
 
 -- where there is no first, there is none
 none_below : (n : ℕ) (P : ℕ → Type 0) → ((i : ℕ) → FirstBelow n P i → ⊥) → (k : ℕ) → k ≤ n → NoneBelow k P
@@ -32,22 +32,22 @@ no_variable o h e =
     let same : parts_of (Some o) ≡ 0 = ap parts_of (sym (operator_of_number o) ∙ ap operator_of e) in
     omega arith
 
-all_left : (xs ys : List Node) → All Within (xs ++ ys) → All Within xs
+all_left : (xs ys : List Node) → AllByRecursion Within (xs ++ ys) → AllByRecursion Within xs
 all_left [] ys a = tt
 all_left (x ∷ xs) ys a = (a.0, all_left xs ys a.1)
 
-all_right : (xs ys : List Node) → All Within (xs ++ ys) → All Within ys
+all_right : (xs ys : List Node) → AllByRecursion Within (xs ++ ys) → AllByRecursion Within ys
 all_right [] ys a = a
 all_right (x ∷ xs) ys a = all_right xs ys a.1
 
-variables_from : (t : Tree) → All Within (postfix t) → VariablesWithin t
+variables_from : (t : Tree) → AllByRecursion Within (postfix t) → VariablesWithin t
 variables_from (cnst w) a = tt
 variables_from (var v) a = a.0 refl
 variables_from (one o t) a = variables_from t (all_left (postfix t) _ a)
 variables_from (two o t u) a =
     (variables_from t (all_left (postfix t) _ a), variables_from u (all_left (postfix u) _ (all_right (postfix t) _ a)))
 
-all_from : (t : Tree) → VariablesWithin t → All Within (postfix t)
+all_from : (t : Tree) → VariablesWithin t → AllByRecursion Within (postfix t)
 all_from (cnst w) h = (λ e. omega arith, tt)
 all_from (var v) h = (λ e. h, tt)
 all_from (one o t) h = All-append Within (postfix t) _ (all_from t h) (λ e. absurd (no_variable (One o) (omega arith) e), tt)
@@ -73,12 +73,12 @@ tree_of v xs g =
     let t = newest (forest [] xs) in
     let nodes : postfix t ≡ xs = sym (only (forest [] xs) (trees.count ∙ single)) ∙ trees.nodes in
     let short : length xs ≤ 256 = at_least (λ long. g 12 256 (too_many refl refl long)) in
-    let each : All Within xs = All-from_get_or Within xs _ (λ i h e. at_least (λ over. within i h (e, over))) in (
+    let each : AllByRecursion Within xs = All-from_get_or Within xs _ (λ i h e. at_least (λ over. within i h (e, over))) in (
       t,
       record {
         nodes_are = nodes;
         short = omega (arith, length-postfix t, ap length nodes);
-        variables_within = variables_from t (subst (All Within) (sym nodes) each);
+        variables_within = variables_from t (subst (AllByRecursion Within) (sym nodes) each);
         target_within = at_least (λ over. g 13 (length xs) (target_over refl refl within over));
       },
     )

@@ -1,8 +1,8 @@
 -- Lists of statements as lists of assignments.
-use Rattle.std.proofs.Common.{◌≡◌, ℕ, ◌+◌, ◌<◌, List, [], ◌∷◌, ◌++◌, map, length, get_or, take, drop, set, sym, refl, ap, ◌∙◌, subst, subst₂, arith, take-append-drop}
+use Rattle.std.proofs.Common.{◌≡◌, ℕ, ◌+◌, ◌<◌, List, [], ◌∷◌, ◌++◌, map, length, get_or, take, drop, set, sym, refl, ap, ◌∙◌, subst₂, arith, take-append-drop}
 use Rattle.std.proofs.lemmas.List.{drop_more, map_more, length-take-le}
 use Rattle.std.proofs.ByRecursion.{All-more}
-use Rattle.std.specs.List.{AllByRecursion as All}
+use Rattle.std.specs.List.{AllByRecursion}
 use Rattle.tree.specs.declared.nodes.Statement.{Statement}
 use Rattle.tree.specs.Trees.{Tree, postfix, value_of, Assignment, evaluated, changed_by}
 use Rattle.tree.specs.declared.checked.CheckedStatement.{CheckedStatement}
@@ -23,7 +23,7 @@ says s g =
     let same : newest (forest [] s.nodes.now) ≡ t = ap (λ l. newest (forest [] l)) (sym found.1.nodes_are) ∙ ap newest (forest-postfix t []) in
     record { target_is = refl; stands = rw same found.1 }
 
-pub say_all : (ss : List Statement) → All Granted ss → SayAll ss (map assignment_of ss)
+pub say_all : (ss : List Statement) → AllByRecursion Granted ss → SayAll ss (map assignment_of ss)
 say_all [] g = tt
 say_all (s ∷ ss) g = (says s g.0, say_all ss g.1)
 
@@ -38,7 +38,7 @@ Same s c = (c.target ≡ s.target) × (nodes_of c ≡ s.nodes.now)
 pub granted_same : (s : Statement) (c : CheckedStatement) → Same s c → Granted s
 granted_same s c e = subst₂ StatementGranted e.0 e.1 c.granted
 
-module _ (ss : List Statement) (i : ℕ) (d : Statement) (h : i < length ss) (before : All Granted (take i ss)) where
+module _ (ss : List Statement) (i : ℕ) (d : Statement) (h : i < length ss) (before : AllByRecursion Granted (take i ss)) where
   pub first_denied : (k p : ℕ) → Denied (get_or ss i d) k p → FirstDenied ss i k p
   first_denied k p r = record {
     before = take i ss;
@@ -52,7 +52,7 @@ module _ (ss : List Statement) (i : ℕ) (d : Statement) (h : i < length ss) (be
 
   -- one statement more
   module _ (c : CheckedStatement) (same : Same (get_or ss i d) c) where
-    pub granted_more : All Granted (take (i + 1) ss)
+    pub granted_more : AllByRecursion Granted (take (i + 1) ss)
     granted_more = All-more Granted ss i d h before (granted_same (get_or ss i d) c same)
 
     pub evaluated_more : (σ σ' τ : List ℕ) → τ ≡ evaluated (map assignment_of (take i ss)) σ → ((t : Tree) → postfix t ≡ nodes_of c → σ' ≡ set τ c.target (value_of τ t)) → σ' ≡ evaluated (map assignment_of (take (i + 1) ss)) σ

@@ -1,6 +1,6 @@
 -- What an evaluation of statements leaves in the variables, and when it is refused.
 use Rattle.std.specs.Prelude.{◌≡◌, ℕ, List, [], ◌∷◌, ◌++◌, length, Some, None, Option, ◌≢◌}
-use Rattle.std.specs.List.{AllByRecursion as All}
+use Rattle.std.specs.List.{AllByRecursion}
 use Rattle.tree.specs.declared.nodes.Statement.{Statement}
 use Rattle.tree.specs.Trees.{Assignment, evaluated}
 use Rattle.tree.specs.Statements.{StatementDenied, StatementGranted, Stands}
@@ -32,7 +32,7 @@ pub record FirstDenied (ss : List Statement) (i k p : ℕ) : Type 0 where
   pub after : List Statement
   pub split : ss ≡ before ++ refused ∷ after
   pub counted : length before ≡ i
-  pub granted_before : All Granted before
+  pub granted_before : AllByRecursion Granted before
   pub denied : Denied refused k p
 
 -- an evaluation over the variables σ is refused with number k at place p, in which statement if in any:

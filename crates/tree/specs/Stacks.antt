@@ -1,5 +1,5 @@
 -- What a bounded stack holds, and what a push and a pop make of it.
-use Rattle.std.specs.Prelude.{◌≡◌, ℕ, ◌+◌, ◌<◌, List, [], ◌∷◌, reverse, length, take, drop}
+use Rattle.std.specs.Prelude.{◌≡◌, ℕ, ◌+◌, ◌<◌, List, ◌∷◌, reverse, length, take, drop}
 use Rattle.tree.specs.declared.stack.Stack.{Stack}
 
 module _ {T : Type 0} where

@@ -1,6 +1,6 @@
-use Rattle.std.proofs.Common.{map, length, sym, refl, ap, ◌∙◌, subst, arith}
+use Rattle.std.proofs.Common.{map, refl, ap, ◌∙◌, subst}
 use Rattle.std.proofs.lemmas.List.{take_all}
-use Rattle.std.specs.List.{AllByRecursion as All}
+use Rattle.std.specs.List.{AllByRecursion}
 use Rattle.tree.specs.Evaluations.{Granted, in_statement}
 use Rattle.tree.specs.Trees.{evaluated}
 use Rattle.tree.proofs.Programs.{assignment_of, say_all, first_denied, granted_more, evaluated_more}
@@ -31,6 +31,6 @@ returns c =
     record {
       counted = c.if-variables-ne-VARIABLES.false;
       assignments = map assignment_of c.args.statements.now;
-      says = say_all c.args.statements.now (subst (All Granted) all c.loop-i.invariant.0);
-      leaves = c.copy-from-slice-2.ensures.after ∙ c.loop-i.invariant.2 ∙ ap (λ l. evaluated (map assignment_of l) c.args.variables.now) all;
+      says = say_all c.args.statements.now (subst (AllByRecursion Granted) all c.loop-i.invariant.0);
+      leaves = c.copy_from_slice-2.ensures.after ∙ c.loop-i.invariant.2 ∙ ap (λ l. evaluated (map assignment_of l) c.args.variables.now) all;
     }

@@ -1,4 +1,4 @@
-use Rattle.std.proofs.Common.{[], map, length, take, sym, ap, ◌∙◌, subst, arith}
+use Rattle.std.proofs.Common.{[], map, length, take, ap, ◌∙◌, arith}
 use Rattle.std.proofs.lemmas.List.{take_all, length-take-le}
 use Rattle.tree.specs.Trees.{value_of}
 use Rattle.tree.specs.Statements.{node_at}

@@ -1,4 +1,4 @@
-use Rattle.std.proofs.Common.{◌+◌, ◌-◌, length, take, sym, refl, ap, ◌∙◌, subst, arith, below_more}
+use Rattle.std.proofs.Common.{◌+◌, ◌-◌, sym, refl, ap, ◌∙◌, subst, arith, below_more}
 use Rattle.std.proofs.lemmas.List.{take_all}
 use Rattle.tree.specs.Statements.{Faulty, standing, faulty, no_tree, parts_taken, node_at}
 use Rattle.tree.proofs.Conditions.{none_11, standing_more}
