@@ -3,8 +3,8 @@ use Rattle.lexer.specs.Bytes.{read_on}
 use Rattle.lexer.proofs.Digits.{read_more, read_all, read_within}
 use Rattle.lexer.proofs.runs.number_value.Goals as goal
 
-pub returns-then-value-gt-LAST-WORD : goal.returns-then-value-gt-LAST-WORD
-returns-then-value-gt-LAST-WORD c lt = omega (arith, read_within c.loop-digit.value _ _ c.loop-digit.invariant.0 c.loop-digit-test.true)
+pub returns-then-value-gt-LAST_WORD : goal.returns-then-value-gt-LAST_WORD
+returns-then-value-gt-LAST_WORD c lt = omega (arith, read_within c.loop-digit.value _ _ c.loop-digit.invariant.0 c.loop-digit-test.true)
 
 pub loop-digit-preserved : goal.loop-digit-preserved
 loop-digit-preserved c =
