@@ -3,3 +3,4 @@ pub mod ItemSteps
 pub mod Same
 pub mod Shapes
 pub mod ItemValues
+pub mod Codes

@@ -1,7 +1,7 @@
 -- Values with equal contents are equal: ranges by their ends, names by their letters, patterns by their items.
 use Rattle.std.proofs.Common.{◌≡◌, ℕ, suc, ◌-◌, ◌^◌, ◌≤◌, true, List, ◌++◌, length, take, drop, replicate, sym, ap, ◌∙◌, arith, take-append-drop}
 use mathlib.Core.Bool.{Bool-set}
-use mathlib.Core.HLevel.{is_prop→PathP, hedberg}
+use mathlib.Core.HLevel.{is_prop→PathP}
 use mathlib.Core.List.{is_set}
 use native.Mathlib.Bridge.{le_prop}
 use native.Mathlib.Nat.{ℕ_set}

@@ -5,3 +5,4 @@ pub mod Items
 pub mod Patterns
 pub mod Shapes
 pub mod ItemValues
+pub mod Comparisons

@@ -1,9 +1,11 @@
 // How a short name is made and compared.
-ghost use Rattle.std.specs.Prelude.{◌≡◌, true, false, ◌||◌, Decides, MatchOption};
+ghost use Rattle.std.specs.Ordering.{on};
+ghost use Rattle.std.specs.Cmp.Lexicographic.{pointwise};
+ghost use Rattle.std.specs.Prelude.{◌≡◌, ◌==◌, true, false, ◌||◌, Decides, MatchOption};
 ghost use Rattle.pattern.specs.Letters.{letters_of};
 ghost use Rattle.pattern.specs.Names.{all_plain, is_digit, is_lower, short_name};
 ghost use Rattle.std.specs.Cmp.Rules.{comparing};
-ghost use Rattle.std.proofs.Common.{rules, arith};
+ghost use Rattle.std.proofs.Common.{rules};
 
 use super::ShortName;
 
@@ -51,11 +53,14 @@ impl ShortName {
 }
 
 impl PartialEq for ShortName {
-    ghost equals = { λ a b r. Decides r (letters_of a ≡ letters_of b) };
+    ghost eq = { on letters_of (pointwise ◌==◌) };
 
-    ghost laws = { first_of (Prim.search (comparing, rules), Prim.grind (arith, Self.row.coded.inj)) };
+    ghost laws = { Prim.search (comparing, rules) };
 
-    fn eq(&self, other: &ShortName) -> bool {
+    fn eq(&self, other: &ShortName) -> bool
+        ensures value { result ≡ pointwise ◌==◌ (letters_of self.now) (letters_of other.now) }
+        ensures same { Decides result (letters_of self.now ≡ letters_of other.now) }
+    {
         self.bytes[0..self.len] == other.bytes[0..other.len]
     }
 }

@@ -1,9 +1,12 @@
 // How a pattern is made.
-ghost use Rattle.std.specs.Prelude.{◌≡◌, false, Decides, MatchOption};
+ghost use Rattle.std.specs.Prelude.{◌≡◌, ◌==◌, false, Decides, MatchOption};
+ghost use Rattle.std.specs.Ordering.{on};
+ghost use Rattle.std.specs.Cmp.Lexicographic.{pointwise};
 ghost use Rattle.pattern.specs.Items.{item_parts, pattern_items, whole_from};
 ghost use Rattle.pattern.specs.Patterns.{items_of};
 ghost use Rattle.std.specs.Cmp.Rules.{comparing};
-ghost use Rattle.std.proofs.Common.{rules, arith};
+ghost use Rattle.std.proofs.Common.{rules};
+ghost use Rattle.pattern.specs.Comparisons.{item_code};
 
 use super::Pattern;
 use super::counts::counts;
@@ -61,11 +64,14 @@ impl Pattern {
 }
 
 impl PartialEq for Pattern {
-    ghost equals = { λ a b r. Decides r (items_of a ≡ items_of b) };
+    ghost eq = { on items_of (pointwise (on item_code (pointwise ◌==◌))) };
 
-    ghost laws = { first_of (Prim.search (comparing, rules), Prim.grind (arith, Self.row.coded.inj)) };
+    ghost laws = { Prim.search (comparing, rules) };
 
-    fn eq(&self, other: &Pattern) -> bool {
+    fn eq(&self, other: &Pattern) -> bool
+        ensures value { result ≡ pointwise (on item_code (pointwise ◌==◌)) (items_of self.now) (items_of other.now) }
+        ensures same { Decides result (items_of self.now ≡ items_of other.now) }
+    {
         self.items[0..self.len] == other.items[0..other.len]
     }
 }

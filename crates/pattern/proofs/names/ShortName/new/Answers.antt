@@ -9,12 +9,16 @@ short bs e =
     let rest = (and_parts (is_lower (get_or bs 0 0)) (leb (length bs) 8 && all_plain bs) e).1 in
     leb-true (length bs) 8 (and_parts (leb (length bs) 8) (all_plain bs) rest).0
 
-pub invariant-of-result : goal.invariant-of-result
-invariant-of-result c =
+pub invariant_of-result : goal.invariant_of-result
+invariant_of-result c =
     let formed = sym c.if-not-formed.ensures in
-    let same = c.copy-from-slice.ensures.after in
-    let within = short c.args.text.now formed in
-    (size _ _ same 8 0 within, (within, (ap short_name (front _ _ same _) ∙ formed, (back _ _ same 8 0, tt))))
+    let same = c.copy_from_slice.ensures.after in
+    let within = short c.args.text.now formed in record {
+      sized = size _ _ same 8 0 within;
+      within = within;
+      formed = ap short_name (front _ _ same _) ∙ formed;
+      blank = back _ _ same 8 0;
+    }
 
 pub returns : goal.returns
-returns c = front _ _ c.copy-from-slice.ensures.after _
+returns c = front _ _ c.copy_from_slice.ensures.after _

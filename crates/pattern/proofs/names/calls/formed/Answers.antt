@@ -1,7 +1,7 @@
-use Rattle.std.proofs.Common.{◌≡◌, false, ◌&&◌, leb, length, get_or, sym, ap, ◌∙◌, inl, inr, arith}
+use Rattle.std.proofs.Common.{◌&&◌, leb, length, get_or, sym, ap, inl, inr, arith}
 use Rattle.std.proofs.lemmas.List.{get_or_past}
 use Rattle.std.proofs.lemmas.Bool.{and_left, and_right, lt-leb}
-use Rattle.pattern.specs.Names.{is_lower, all_plain, short_name}
+use Rattle.pattern.specs.Names.{is_lower, all_plain}
 use Rattle.pattern.proofs.names.calls.formed.Goals as goal
 
 pub returns-then-text-eq0 : goal.returns-then-text-eq0

@@ -6,5 +6,5 @@ use Rattle.pattern.proofs.patterns.Pattern.value.Goals as goal
 pub returns : goal.returns
 returns c q e =
     let p = c.args.self.now in
-    c.value-of.ensures
+    c.value_of.ensures
     ∙ value_whole c.args.setting.now q _ c.args.operands.now c.args.payloads.now (e ∙ sym (ap (λ k. take k p.items) (sub-zero p.len)))

@@ -1,6 +1,6 @@
-use Rattle.std.proofs.Common.{◌+◌, ◌≤◌, drop, sym, ap, ◌∙◌, arith}
+use Rattle.std.proofs.Common.{arith}
 use Rattle.std.proofs.lemmas.List.{at_drop_all}
-use Rattle.pattern.specs.Items.{count_of_operands, count_of_leaves, operands_in, leaves_in}
+use Rattle.pattern.specs.Items.{count_of_operands, count_of_leaves}
 use Rattle.pattern.proofs.ItemSteps.{step, operands_few, leaves_few}
 use Rattle.pattern.proofs.patterns.counts.counts.Goals as goal
 
