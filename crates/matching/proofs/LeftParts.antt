@@ -1,18 +1,17 @@
 -- Left parts: a front of the nodes and one node more, and what stands at the root of a subtree.
-use Rattle.std.proofs.Common.{◌≡◌, ℕ, suc, ◌+◌, ◌-◌, ◌<◌, ◌≤◌, cond, eqb, List, [], ◌∷◌, ◌++◌, length, get_or, take, drop, Some, sym, refl, ap, ◌∙◌, subst, append_assoc, arith, length-append, length-drop, take-append-drop}
+use Rattle.std.proofs.Common.{◌≡◌, ℕ, suc, ◌+◌, ◌-◌, ◌<◌, ◌≤◌, cond, eqb, List, [], ◌∷◌, ◌++◌, length, get_or, take, drop, Some, sym, refl, ap, ◌∙◌, append_assoc, arith, length-append, length-drop, take-append-drop}
 use Rattle.std.proofs.lemmas.List.{get_or_at, take_more}
-use Rattle.operators.specs.declared.Unary.{Unary}
 use Rattle.operators.specs.declared.Binary.{Binary}
 use Rattle.operators.specs.declared.Operator.{Operator}
-use Rattle.operators.specs.declared.Operator.TheVariants.{Cnst, Var, One, Two}
+use Rattle.operators.specs.declared.Operator.TheVariants.{One, Two}
 use Rattle.operators.proofs.Numbers.{operator_of_number}
 use Rattle.tree.specs.declared.nodes.Node.{Node}
-use Rattle.tree.specs.Trees.{Tree, cnst, var, one, two, node_count, node_of, postfix}
+use Rattle.tree.specs.Trees.{Tree, cnst, var, one, two, node_of, postfix}
 use Rattle.tree.specs.Statements.{parts_of, parts_taken, node_at}
 use Rattle.tree.proofs.Forests.{length-postfix}
 use Rattle.matching.specs.Subtrees.{root_of, SubtreeAt}
 use Rattle.matching.specs.Parts.{left_part, roots_after, left_parts_from, left_parts, PartsAreRoots}
-use Rattle.matching.proofs.Subtrees.{some_node, root_is}
+use Rattle.matching.proofs.Subtrees.{root_is}
 
 -- the roots that stand after the nodes, the newest first
 abbrev pub roots_from : ℕ → List ℕ → List Node → List ℕ

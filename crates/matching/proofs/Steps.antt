@@ -1,14 +1,11 @@
 -- Matching item by item finds exactly what the pattern's shape matches.
-use Rattle.std.proofs.Common.{◌≡◌, ℕ, ◌+◌, ◌-◌, ◌<◌, ◌≤◌, Bool, true, false, cond, ◌&&◌, eqb, List, [], ◌∷◌, ◌++◌, map, length, get_or, drop, Some, None, Option, sym, refl, ap, ◌∙◌, subst, append_assoc, append-nil, arith, MatchOption}
-use Rattle.std.specs.List.{AllByRecursion as All}
-use Rattle.std.proofs.ByRecursion.{All-append}
+use Rattle.std.proofs.Common.{◌≡◌, ℕ, ◌+◌, ◌-◌, ◌<◌, ◌≤◌, Bool, true, false, cond, ◌&&◌, List, [], ◌∷◌, ◌++◌, map, length, get_or, drop, Some, None, Option, sym, refl, ap, ◌∙◌, subst, append_assoc, append-nil, arith, MatchOption}
+use Rattle.std.specs.List.{AllByRecursion}
 use Rattle.std.proofs.lemmas.List.{map-append, get_or-take, length-take-le}
 use Rattle.std.proofs.lemmas.Bool.{cond-true, cond-false}
 use Rattle.operators.specs.declared.Unary.{Unary as UnaryOperator}
 use Rattle.operators.specs.declared.Binary.{Binary as BinaryOperator}
-use Rattle.operators.specs.declared.Operator.{Operator}
 use Rattle.operators.specs.declared.Operator.TheVariants.{Cnst, Var, One, Two}
-use Rattle.operators.specs.Operators.{operator_number}
 use Rattle.tree.specs.declared.nodes.Node.{Node}
 use Rattle.tree.specs.Trees.{Tree, one, two, node_count, node_of}
 use Rattle.tree.specs.Statements.{node_at}
@@ -20,7 +17,6 @@ use Rattle.matching.specs.declared.trees.CheckedTree.{CheckedTree}
 use Rattle.matching.specs.Checked.{tree_nodes}
 use Rattle.matching.specs.Found.{operands_found, payloads_found}
 use Rattle.pattern.specs.Items.{item_parts, operands_in, leaves_in}
-use Rattle.matching.specs.Matches.{Subgoal, Matches}
 use Rattle.matching.specs.Matching.{fallen, NoMatch, Reports}
 use Rattle.matching.specs.Parts.{left_parts}
 use Rattle.pattern.specs.Ranges.{admitted}
@@ -28,7 +24,7 @@ use Rattle.pattern.specs.Shapes.{Shape, operand_shape, constant_shape, variable_
 use Rattle.matching.specs.Steps.{fits_node, part_nodes, operand_there, payload_there, found_from}
 use Rattle.matching.specs.Subtrees.{root_of, SubtreeAt}
 use Rattle.matching.proofs.LeftParts.{parts_are_roots_lem}
-use Rattle.matching.proofs.Matched.{Found, found, goal_of, a_payload, after, both, matched, sound, finds, top_operator, top_payload, left_tree, right_tree, tops, tops_is, is_one, is_two}
+use Rattle.matching.proofs.Matched.{Found, after, both, matched, sound, finds, top_operator, top_payload, left_tree, right_tree, tops, tops_is, is_one, is_two}
 use Rattle.matching.proofs.Subtrees.{subtree_of, some_node, root_is, node_there, part_of_one, left_of_two, right_of_two}
 
 cond_same : {A : Type 0} (b : Bool) (x y z : A) → (b ≡ true → x ≡ y) → cond b x z ≡ cond b y z
@@ -166,7 +162,7 @@ module _ (t : CheckedTree) where
 
   -- the nodes that wait are nodes of the tree
   abbrev pub Nodes : List ℕ → Type 0
-  Nodes ks = All (λ k. k < t.len) ks
+  Nodes ks = AllByRecursion (λ k. k < t.len) ks
 
   pub next_inside : (ks : List ℕ) → 0 < t.len → Nodes ks → get_or ks 0 0 < t.len
   next_inside [] h a = h

@@ -1,14 +1,13 @@
 -- The subtrees of a list of nodes: each node is the root of exactly one, and where its parts stand.
-use Rattle.std.proofs.Common.{◌≡◌, ℕ, ◌+◌, ◌-◌, ◌<◌, ◌≤◌, List, [], ◌∷◌, ◌++◌, length, get_or, take, sym, refl, ap, ◌∙◌, subst, append_assoc, arith, length-append, length-take}
+use Rattle.std.proofs.Common.{◌≡◌, ℕ, ◌+◌, ◌<◌, ◌≤◌, List, [], ◌∷◌, ◌++◌, length, take, sym, refl, ap, ◌∙◌, subst, append_assoc, arith, length-append, length-take}
 use Rattle.std.proofs.lemmas.List.{take-take, take_at, get_or-take, get_or_push, length-take-le}
 use Rattle.operators.specs.declared.Unary.{Unary}
 use Rattle.operators.specs.declared.Binary.{Binary}
-use Rattle.operators.specs.declared.Operator.TheVariants.{Cnst, Var, One, Two}
 use Rattle.tree.specs.declared.nodes.Node.{Node}
 use Rattle.tree.specs.Trees.{Tree, cnst, var, one, two, node_count, node_of, postfix}
-use Rattle.tree.specs.Statements.{StatementGranted, standing, node_at, parts_taken}
+use Rattle.tree.specs.Statements.{StatementGranted, node_at}
 use Rattle.tree.proofs.Conditions.{standing_more}
-use Rattle.tree.proofs.Forests.{newest, older, forest, forest-append, forest-postfix, flat, Clean, clean_take, Stood, stood, postfix_clean, length-postfix}
+use Rattle.tree.proofs.Forests.{newest, forest, forest-append, forest-postfix, flat, Clean, clean_take, Stood, stood, postfix_clean, length-postfix}
 use Rattle.tree.proofs.Grants.{tree_of}
 use Rattle.matching.specs.Subtrees.{root_of, SubtreeAt, OneSubtreeEach}
 use Rattle.matching.proofs.Matched.{top_operator, top_payload}

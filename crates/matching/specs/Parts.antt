@@ -23,7 +23,7 @@ left_parts_from n rs (x ∷ xs) = left_part rs x ∷ left_parts_from (suc n) (ro
 abbrev pub left_parts : List Node → List ℕ
 left_parts xs = left_parts_from 0 [] xs
 
--- what left-parts means: at the root i of a subtree with two parts it is the root of the left one, and the node before i is the
+-- what left_parts means: at the root i of a subtree with two parts it is the root of the left one, and the node before i is the
 -- root of the right one; at the root of a subtree with one part, the node before is the root of that
 abbrev pub PartsAreRoots : Type 0
 PartsAreRoots =

@@ -1,5 +1,5 @@
 -- Matching item by item: the items are taken in reading order, each at the next node that waits for one.
-use Rattle.std.specs.Prelude.{◌≡◌, ℕ, ◌-◌, Bool, true, cond, ◌&&◌, List, [], ◌∷◌, ◌++◌, drop, Some, None, Option, ◌==◌, slice_index}
+use Rattle.std.specs.Prelude.{ℕ, ◌-◌, Bool, true, cond, ◌&&◌, List, [], ◌∷◌, ◌++◌, drop, Some, None, Option, ◌==◌, slice_index}
 use Rattle.operators.specs.declared.Operator.TheVariants.{Cnst, Var, One, Two}
 use Rattle.operators.specs.Operators.{operator_number}
 use Rattle.tree.specs.declared.nodes.Node.{Node}

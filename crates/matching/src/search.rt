@@ -35,8 +35,8 @@ fn fits(item: Item, node: Node) -> bool
 
 // Keeps what the item finds at a node with this payload.
 fn keep(item: Item, node: usize, payload: u32, found: &mut Match)
-    requires item_len_bound { length (operands_found found.old) + operands_in item ≤ 2 }
-    requires item_len_bound_2 { length (payloads_found found.old) + leaves_in item ≤ 2 }
+    requires operands_fit { length (operands_found found.old) + operands_in item ≤ 2 }
+    requires leaves_fit { length (payloads_found found.old) + leaves_in item ≤ 2 }
     ensures operands { operands_found found.new ≡ operands_found found.old ++ operand_there item node }
     ensures payloads { payloads_found found.new ≡ payloads_found found.old ++ payload_there item payload }
 {

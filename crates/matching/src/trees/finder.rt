@@ -40,8 +40,8 @@ fn left_of(node: Node, number: usize, roots: &mut Stack<usize>) -> usize
 
 // The left parts of all nodes, at the front of an array.
 fn parted(nodes: &[Node], memory: &mut [usize]) -> [usize; 256]
-    requires nodes_len_bound { length nodes.now ≤ 256 }
-    requires nodes_in_bounds { length nodes.now ≤ length memory.old }
+    requires few_nodes { length nodes.now ≤ 256 }
+    requires room { length nodes.now ≤ length memory.old }
     ensures { take (length nodes.now) result ≡ left_parts nodes.now }
 {
     let mut left = [0; NODE_LIMIT];

@@ -9,5 +9,5 @@ returns c =
     record {
       past_end = λ h. absurd (omega (arith, c.if-node-self.false));
       at_node = λ q u n e s.
-          answered c.args.self.now q _ (e ∙ sym (ap (λ k. take k p.items) (sub-zero p.len))) s c.found-at.result c.found-at.ensures;
+          answered c.args.self.now q _ (e ∙ sym (ap (λ k. take k p.items) (sub-zero p.len))) s c.found_at.result c.found_at.ensures;
     }
