@@ -1,6 +1,6 @@
 -- What the tests of a description's invariant mean.
-use Rattle.std.proofs.Common.{◌≡◌, ℕ, ◌<◌, ◌≤◌, Bool, true, false, ◌&&◌, eqb, ltb, ◌⊎◌, List, [], ◌∷◌, length, Some, None, Option, sym, refl, ap, ◌∙◌, subst, inl, inr, ⊎_elim, arith}
-use Rattle.std.specs.List.{AllByRecursion as All}
+use Rattle.std.proofs.Common.{◌≡◌, ℕ, ◌<◌, true, false, eqb, ltb, List, [], ◌∷◌, length, Some, None, sym, refl, ap, ◌∙◌, inl, inr, ⊎_elim, arith}
+use Rattle.std.specs.List.{AllByRecursion}
 use Rattle.std.proofs.lemmas.List.{nil_from_length}
 use Rattle.std.proofs.lemmas.Bool.{and_parts, ltb-true, eqb-true, eqb-false, cond-true, cond-false, cases_Bool, both_ways}
 use Rattle.pattern.specs.declared.items.Item.{Item}
@@ -8,14 +8,12 @@ use Rattle.pattern.specs.declared.items.Item.TheVariants.{Operand, Unary, Binary
 use Rattle.pattern.specs.Patterns.{items_of}
 use Rattle.description.specs.declared.rules.Nonterminal.{Nonterminal}
 use Rattle.description.specs.declared.rules.Rule.{Rule}
-use Rattle.description.specs.declared.rules.Emission.{Emission}
-use Rattle.description.specs.declared.rules.Emission.TheVariants.{Rename, Instruction}
 use Rattle.description.specs.declared.descriptions.Description.{Description}
 use Rattle.description.specs.Rules.{only_operand}
 use Rattle.description.specs.Names.{place_letter}
 use Rattle.description.specs.Fits.{operand_below, operands_below, chain_at_place, may_emit, rule_fits, all_fit}
-use Rattle.description.specs.Descriptions.{names_of, rules_of, start_of}
-use Rattle.description.specs.Laws.{OperandDeclared, RuleKeeps, Keeps, AllKeep}
+use Rattle.description.specs.Descriptions.{names_of, rules_of}
+use Rattle.description.specs.Laws.{OperandDeclared, RuleKeeps, AllKeep}
 use Rattle.description.proofs.Names.{distinct_from}
 use Rattle.description.proofs.Counts.{count_of_names, count_of_rules}
 
@@ -26,7 +24,7 @@ operand_declared n (Binary o) e = tt
 operand_declared n (Constant i) e = tt
 operand_declared n Variable e = tt
 
-operands_declared : (n : ℕ) (xs : List Item) → operands_below n xs ≡ true → All (OperandDeclared n) xs
+operands_declared : (n : ℕ) (xs : List Item) → operands_below n xs ≡ true → AllByRecursion (OperandDeclared n) xs
 operands_declared n [] e = tt
 operands_declared n (x ∷ xs) e =
     let both = and_parts (operand_below n x) (operands_below n xs) e in
@@ -52,7 +50,7 @@ rule_keeps ns r e =
       renames = λ is. chain_means ns r.left (items_of r.pattern) (sym (ap (may_emit ns r) is) ∙ second.1);
     }
 
-rules_keep : (ns : List Nonterminal) (rs : List Rule) → all_fit ns rs ≡ true → All (RuleKeeps ns) rs
+rules_keep : (ns : List Nonterminal) (rs : List Rule) → all_fit ns rs ≡ true → AllByRecursion (RuleKeeps ns) rs
 rules_keep ns [] e = tt
 rules_keep ns (r ∷ rs) e =
     let both = and_parts (rule_fits ns r) (all_fit ns rs) e in

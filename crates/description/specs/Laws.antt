@@ -1,6 +1,6 @@
 -- What every description keeps to, so that nothing later tests for it.
 use Rattle.std.specs.Prelude.{◌≡◌, ℕ, ◌<◌, ◌≤◌, ◌⊎◌, List, [], ◌∷◌, length, Some, None, ◌≢◌}
-use Rattle.std.specs.List.{AllByRecursion as All}
+use Rattle.std.specs.List.{AllByRecursion}
 use Rattle.pattern.specs.declared.items.Item.{Item}
 use Rattle.pattern.specs.declared.items.Item.TheVariants.{Operand, Unary, Binary, Constant, Variable}
 use Rattle.pattern.specs.Patterns.{items_of}
@@ -13,7 +13,7 @@ use Rattle.description.specs.Descriptions.{names_of, rules_of, start_of}
 
 -- no name has that text
 abbrev pub Absent : List ℕ → List Nonterminal → Type 0
-Absent t = All (λ n. text_of n ≢ t)
+Absent t = AllByRecursion (λ n. text_of n ≢ t)
 
 -- no two names have one text
 abbrev pub Distinct : List Nonterminal → Type 0
@@ -30,7 +30,7 @@ OperandDeclared n Variable = Unit {0}
 
 pub record RuleKeeps (ns : List Nonterminal) (r : Rule) : Type 0 where
   pub left_declared : r.left < length ns
-  pub operands_declared : All (OperandDeclared (length ns)) (items_of r.pattern)
+  pub operands_declared : AllByRecursion (OperandDeclared (length ns)) (items_of r.pattern)
   -- a rename is a chain rule between names of equal PLACE
   pub renames : r.emission ≡ Rename → (b : ℕ) × (items_of r.pattern ≡ Operand b ∷ []) × (place_letter ns r.left ≡ place_letter ns b)
 
@@ -38,7 +38,7 @@ pub record Keeps (d : Description) : Type 0 where
   pub at_most_16 : length (names_of d) ≤ 16
   pub at_most_128 : length (rules_of d) ≤ 128
   pub distinct : Distinct (names_of d)
-  pub rules_keep : All (RuleKeeps (names_of d)) (rules_of d)
+  pub rules_keep : AllByRecursion (RuleKeeps (names_of d)) (rules_of d)
   -- there is a start exactly if there are names, and it is one of them
   pub starts : ((names_of d ≡ []) × (start_of d ≡ None)) ⊎ ((i : ℕ) × (start_of d ≡ Some i) × (i < length (names_of d)))
 

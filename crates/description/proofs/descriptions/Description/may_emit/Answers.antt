@@ -1,12 +1,7 @@
-use Rattle.std.proofs.Common.{◌≡◌, eqb, List, sym, refl, ap, ◌∙◌, subst, ap₂, arith}
+use Rattle.std.proofs.Common.{eqb, sym, ap, ◌∙◌, ap₂, arith}
 use Rattle.pattern.specs.Patterns.{items_of}
-use Rattle.description.specs.declared.rules.Rule.{Rule}
-use Rattle.description.specs.declared.rules.Nonterminal.{Nonterminal}
-use Rattle.description.specs.declared.rules.Emission.{Emission}
-use Rattle.description.specs.declared.rules.Emission.TheVariants.{Rename, Instruction}
 use Rattle.description.specs.Descriptions.{names_of}
-use Rattle.description.specs.Fits.{may_emit, chain_at_place}
-use Rattle.description.specs.Rules.{only_operand}
+use Rattle.description.specs.Fits.{chain_at_place}
 use Rattle.description.proofs.Counts.{place_at}
 use Rattle.description.proofs.Fits.{only_below, emits_nothing}
 use Rattle.description.proofs.descriptions.Description.may_emit.Goals as goal
@@ -21,4 +16,4 @@ returns-in-Some c =
     (sym (place_at d.name_count r.left d.names c.index-self-rule.result c.requires.0 (omega arith)))
     (sym (place_at d.name_count c.in-Some.from d.names c.index-self-from.result below (omega arith)))
     ∙ ap (chain_at_place (names_of d) r.left) is
-    ∙ sym (emits_nothing (names_of d) r r.emission c.in-default.not-Instruction)
+    ∙ sym (emits_nothing (names_of d) r r.emission c.in_default.not-Instruction)

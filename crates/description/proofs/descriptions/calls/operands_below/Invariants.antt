@@ -1,4 +1,4 @@
-use Rattle.std.proofs.Common.{◌≡◌, true, drop}
+use Rattle.std.proofs.Common.{◌≡◌, drop}
 use Rattle.pattern.specs.Patterns.{items_of}
 use Rattle.description.specs.Fits.{operands_below}
 use Rattle.description.proofs.descriptions.calls.operands_below.Given as goal
