@@ -1,5 +1,5 @@
 -- The operator of a text.
-use Rattle.std.proofs.Common.{◌≡◌, ℕ, Bool, true, false, List, [], ◌∷◌, Some, None, IsUtf8, Option, sym, refl, ap, ◌∙◌, subst, ⊎_elim, MatchOption}
+use Rattle.std.proofs.Common.{◌≡◌, ℕ, List, [], ◌∷◌, Some, None, IsUtf8, Option, sym, refl, ap, ◌∙◌, subst, ⊎_elim, MatchOption}
 use lib.Utf8.{encode}
 use Rattle.std.proofs.lemmas.Bool.{cond-false, cases_Bool}
 use Rattle.operators.specs.declared.Unary.TheVariants.{Neg, Not}

@@ -1,11 +1,11 @@
 -- A text that begins with the mark and a space.
-use Rattle.std.proofs.Common.{◌≡◌, ℕ, ◌-◌, ◌≤◌, Bool, true, false, cond, eqb, List, [], ◌∷◌, length, get_or, take, drop, Ok, Err, codes, sym, refl, ap, ◌∙◌, ⊎_elim, arith}
+use Rattle.std.proofs.Common.{◌≡◌, ℕ, ◌-◌, ◌≤◌, Bool, true, false, cond, eqb, List, [], ◌∷◌, length, get_or, take, drop, Err, codes, sym, ap, ◌∙◌, ⊎_elim, arith}
 use Rattle.std.proofs.lemmas.List.{take_rest, get_or-drop, get_or_past}
 use Rattle.std.proofs.lemmas.Bool.{cond-true, cond-false, eq-eqb, cases_lt}
 use Rattle.lexer.specs.Bytes.{is_digit}
 use Rattle.lexer.specs.Tokens.{token_at}
 use Rattle.description.specs.Names.{same_text}
-use Rattle.reader.specs.Reading.{Answer, versioned, after_mark, reading}
+use Rattle.reader.specs.Reading.{versioned, after_mark, reading}
 
 marked : (bs : List ℕ) → 4 ≤ length bs → get_or bs 0 0 ≡ 66 → get_or bs 1 0 ≡ 84 → get_or bs 2 0 ≡ 71 → same_text (take 3 bs) (codes "BTG") ≡ true
 marked [] h b t g = absurd (omega arith)

@@ -1,6 +1,6 @@
 -- Names by their number and operators by their name: what is looked up is what the grammar calls it.
 use Rattle.std.proofs.Common.{◌≡◌, ℕ, zero, suc, ◌+◌, Bool, true, false, List, [], ◌∷◌, ◌++◌, is_some, Some, sym, refl, ap, ◌∙◌, subst, ⊎_elim, arith}
-use Rattle.std.specs.List.{AllByRecursion as All}
+use Rattle.std.specs.List.{AllByRecursion}
 use Rattle.std.proofs.ByRecursion.{All-push}
 use Rattle.std.proofs.lemmas.Bool.{cond-true, cond-false, cases_Bool, both_ways}
 use Rattle.operators.specs.declared.Unary.TheVariants.{Neg, Not}
@@ -22,7 +22,7 @@ other_from xs ys f = ⊎_elim (λ t. absurd (f (same_text_true xs ys t))) (λ e.
 
 -- no declaration has that text
 abbrev pub Fresh : List ℕ → List Declaration → Type 0
-Fresh t ds = All (λ e. e.spelled ≡ t → ⊥) ds
+Fresh t ds = AllByRecursion (λ e. e.spelled ≡ t → ⊥) ds
 
 named_not_fresh : (ds : List Declaration) (a : ℕ) (t u : List ℕ) → Fresh u ds → Named ds a t → u ≡ t → ⊥
 named_not_fresh [] a t u f n e = n
@@ -80,7 +80,7 @@ pub apart_push : (ds : List Declaration) (d : Declaration) → Apart ds → Fres
 apart_push [] d p f = (tt, tt)
 apart_push (e ∷ ds) d p f = (All-push (λ g. g.spelled ≡ e.spelled → ⊥) ds d p.0 (λ s. f.0 (sym s)), apart_push ds d p.1 f.1)
 
-all_there : (P : Declaration → Type 0) (ds es : List Declaration) (d : Declaration) → All P (ds ++ d ∷ es) → P d
+all_there : (P : Declaration → Type 0) (ds es : List Declaration) (d : Declaration) → AllByRecursion P (ds ++ d ∷ es) → P d
 all_there P [] es d h = h.0
 all_there P (e ∷ ds) es d h = all_there P ds es d h.1
 

@@ -1,6 +1,6 @@
 -- A refusal's place is within the text: so is every place that a state keeps, and every step tells one of these or its own.
 use Rattle.std.proofs.Common.{◌≡◌, ℕ, zero, suc, ◌+◌, ◌-◌, ◌^◌, ◌<◌, ◌≤◌, Bool, true, false, cond, ◌&&◌, eqb, ltb, leb, List, [], ◌∷◌, ◌++◌, length, get_or, take, drop, is_some, Some, None, Ok, Err, codes, Option, Result, refl, ap, subst, ⊎_elim, arith, length-take}
-use Rattle.std.specs.List.{AllByRecursion as All}
+use Rattle.std.specs.List.{AllByRecursion}
 use Rattle.std.proofs.lemmas.List.{get_or_past}
 use Rattle.std.proofs.lemmas.Bool.{cond_both, eqb-true, cases_lt}
 use Rattle.operators.specs.declared.Operator.{Operator}
@@ -22,7 +22,7 @@ use Rattle.reader.specs.Grammar.{PlacesWithin}
 use Rattle.reader.proofs.TokenKinds.{kind_is}
 
 abbrev BracketsIn : ℕ → List Bracket → Type 0
-BracketsIn l bs = All (λ b. b.stands ≤ l) bs
+BracketsIn l bs = AllByRecursion (λ b. b.stands ≤ l) bs
 
 -- the places that a state keeps are at most l
 abbrev Kept : ℕ → Awaits → Type 0

@@ -1,6 +1,6 @@
 -- A rule that has been read is taken by the description.
-use Rattle.std.proofs.Common.{◌≡◌, ℕ, zero, suc, ◌+◌, ◌<◌, ◌≤◌, Bool, true, false, cond, ◌&&◌, eqb, ltb, leb, List, [], ◌∷◌, ◌++◌, map, length, get_or, Some, None, Option, sym, refl, ap, ◌∙◌, subst, ap₂, arith}
-use Rattle.std.specs.List.{AllByRecursion as All}
+use Rattle.std.proofs.Common.{◌≡◌, ℕ, zero, suc, ◌+◌, ◌<◌, ◌≤◌, true, false, cond, ◌&&◌, eqb, ltb, leb, List, [], ◌∷◌, ◌++◌, map, length, get_or, Some, None, Option, sym, refl, ap, ◌∙◌, subst, ap₂, arith}
+use Rattle.std.specs.List.{AllByRecursion}
 use Rattle.std.proofs.lemmas.List.{length-map, map_push}
 use Rattle.std.proofs.lemmas.Bool.{and_from, and_parts, lt-ltb, le-ltb, both_ways, cond-true, cond-false}
 use Rattle.lexer.specs.declared.Token.{Token}
@@ -19,12 +19,12 @@ use Rattle.description.specs.Names.{place_letter}
 use Rattle.description.specs.Rules.{only_operand}
 use Rattle.description.specs.Fits.{operand_below, operands_below, chain_at_place, may_emit}
 use Rattle.description.specs.Descriptions.{names_of, rules_of, start_of, ItemAt, RuleAdded, RuleDenied}
-use Rattle.description.specs.Outlines.{Part, operand, one_sided, two_sided, constant, variable, Declaration, Outline, part_of, declaration_of, production_of, emitted}
+use Rattle.description.specs.Outlines.{Part, operand, one_sided, two_sided, constant, variable, Declaration, part_of, declaration_of, production_of, emitted}
 use Rattle.description.proofs.Counts.{count_of_names}
 use Rattle.reader.specs.declared.progress.Progress.{Progress}
 use Rattle.reader.specs.Words.{is_number, value_in}
-use Rattle.reader.specs.Reading.{Draft, Awaits, State, Outcome, lies, renames, operands_among, leaves_among, within_limits, number_upto, rule_read, rule_end, cycles_number, goes, fails}
-use Rattle.reader.specs.States.{declarations_of, stands, production_from, NumberRead}
+use Rattle.reader.specs.Reading.{Draft, Awaits, Outcome, lies, renames, operands_among, leaves_among, within_limits, number_upto, rule_read, rule_end, cycles_number, goes, fails}
+use Rattle.reader.specs.States.{declarations_of, stands, production_from}
 use Rattle.reader.specs.Soundness.{OperandIn, Fitting, MayEmit, parts_in, whole_parts}
 
 lies_is : (ns : List Nonterminal) (i : ℕ) → lies (map declaration_of ns) i ≡ place_letter ns i
@@ -108,7 +108,7 @@ operand_fits n (Binary o) h = refl
 operand_fits n (Constant i) h = refl
 operand_fits n Variable h = refl
 
-operands_fit : (n : ℕ) (xs : List Item) → All (OperandIn n) (map part_of xs) → operands_below n xs ≡ true
+operands_fit : (n : ℕ) (xs : List Item) → AllByRecursion (OperandIn n) (map part_of xs) → operands_below n xs ≡ true
 operands_fit n [] h = refl
 operands_fit n (x ∷ xs) h = and_from _ _ (operand_fits n x h.0) (operands_fit n xs h.1)
 
@@ -125,8 +125,8 @@ module _ (g : Progress) (w : Awaits) (r : Rule) (d : Draft) (e : Option (List �
   rule_fits fit may LeftUndeclared denied =
       omega (arith, denied.1, fit.left_declared, ap (λ p. p.derives) same, length-map (names_of g.description) declaration_of)
   rule_fits fit may OperandUndeclared denied =
-      let all = subst (λ xs. All (OperandIn (length (declarations_of g))) xs) (sym (ap (λ p. p.parts) same)) fit.operands_declared in
-      let all' = subst (λ n. All (OperandIn n) (map part_of (items_of r.pattern))) (length-map (names_of g.description) declaration_of) all in
+      let all = subst (λ xs. AllByRecursion (OperandIn (length (declarations_of g))) xs) (sym (ap (λ p. p.parts) same)) fit.operands_declared in
+      let all' = subst (λ n. AllByRecursion (OperandIn n) (map part_of (items_of r.pattern))) (length-map (names_of g.description) declaration_of) all in
       both_ways _ denied.2 (operands_fit (length (names_of g.description)) (items_of r.pattern) all')
   rule_fits fit may NotRename denied =
       let may' = subst (MayEmit (stands g w).outline d) (sym (ap (λ p. p.emits) same)) may in

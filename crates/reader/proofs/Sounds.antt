@@ -1,19 +1,18 @@
 -- A token keeps the state sound.
-use Rattle.std.proofs.Common.{◌≡◌, ℕ, zero, suc, ◌+◌, ◌-◌, ◌^◌, ◌<◌, ◌≤◌, Bool, true, false, cond, ◌&&◌, eqb, ltb, leb, List, [], ◌∷◌, ◌++◌, length, take, drop, is_some, Some, None, codes, Option, sym, refl, ap, ◌∙◌, subst, ⊎_elim, arith, length-append}
-use Rattle.std.specs.List.{AllByRecursion as All}
+use Rattle.std.proofs.Common.{◌≡◌, ℕ, zero, suc, ◌+◌, ◌-◌, ◌^◌, ◌<◌, ◌≤◌, true, false, cond, ◌&&◌, eqb, ltb, leb, List, [], ◌∷◌, ◌++◌, length, take, drop, is_some, Some, None, codes, Option, sym, refl, ap, ◌∙◌, subst, ⊎_elim, arith, length-append}
 use Rattle.std.proofs.ByRecursion.{All-append, All-take}
 use Rattle.std.proofs.lemmas.List.{append_assoc, length_push}
 use Rattle.std.proofs.lemmas.Bool.{cond_both, cond-true, cond-false, cases_Bool, both_ways, eqb-true, leb-true, leb-false, ltb-false, and_parts}
 use Rattle.operators.specs.declared.Operator.{Operator}
 use Rattle.operators.specs.declared.Operator.TheVariants.{Cnst, Var, One, Two}
 use Rattle.lexer.specs.declared.Token.{Token}
-use Rattle.lexer.specs.declared.Token.TheVariants.{LineEnd, Number, HugeNumber, Name, Capitals, Percent, Dots, Colon, Open, Close, Comma, Equals, Minus, End}
+use Rattle.lexer.specs.declared.Token.TheVariants.{LineEnd, Name, Capitals, Percent, Dots, Colon, Open, Close, Comma, Equals, Minus, End}
 use Rattle.description.specs.Names.{same_text}
 use Rattle.description.specs.Outlines.{Part, operand, one_sided, two_sided, constant, variable, Declaration, Outline}
 use Rattle.reader.specs.Words.{is, is_number, value_in, declared_from, operator_called}
-use Rattle.reader.specs.Reading.{Bracket, Draft, Awaits, State, Outcome, header_end, directive, new_name, name_place, declaration_end, start_name, start_end, rule_or_end, left_colon, first_item, item, opening, after_item, after_constant, low_end, two_dots, high_end, mnemonic_word, size_number, cycles_number, rule_end, goes, ends, fails, to, next_line, operands_among, leaves_among, within_limits, filled_one, with_brackets, gained, part_read, gain, declared, operand_item, capital_item, any_item, no_parts, item_done, last_replaced, ranged, renames, number_upto, rule_read, name_declared, started, start_found, left_found, step_at, step}
+use Rattle.reader.specs.Reading.{Bracket, Draft, Awaits, State, Outcome, header_end, directive, new_name, name_place, declaration_end, start_name, start_end, rule_or_end, left_colon, first_item, item, opening, after_item, after_constant, low_end, two_dots, high_end, mnemonic_word, size_number, cycles_number, rule_end, goes, ends, fails, to, next_line, operands_among, leaves_among, within_limits, filled_one, with_brackets, gained, part_read, gain, declared, operand_item, capital_item, any_item, no_parts, item_done, last_replaced, ranged, renames, number_upto, rule_read, start_found, left_found, step_at, step}
 use Rattle.reader.specs.States.{EndsInConstant, few_filled}
-use Rattle.reader.specs.Soundness.{parts_in, whole_parts, OperandIn, Laid, LaidAfter, LaidBefore, LaidConstant, Fitting, MayEmit, SoundAt, Sound, SoundAfter}
+use Rattle.reader.specs.Soundness.{parts_in, whole_parts, OperandIn, Laid, LaidAfter, LaidBefore, LaidConstant, Fitting, SoundAt, Sound, SoundAfter}
 use Rattle.reader.proofs.Parts.{replaced_end, operands_replaced, leaves_replaced}
 
 whole_append : (m n : ℕ) (xs ys : List Part) → whole_parts m xs ≡ true → whole_parts n ys ≡ true → whole_parts (m + n) (xs ++ ys) ≡ true

@@ -1,7 +1,7 @@
 -- Reading on by one token.
-use Rattle.std.proofs.Common.{◌≡◌, ℕ, zero, suc, ◌+◌, ◌-◌, ◌<◌, ◌≤◌, Bool, true, false, cond, ◌&&◌, ◌||◌, eqb, leb, List, [], ◌∷◌, map, length, get_or, take, drop, Some, None, Ok, Err, Result, sym, refl, ap, ◌∙◌, subst, arith}
+use Rattle.std.proofs.Common.{◌≡◌, ℕ, suc, ◌+◌, ◌-◌, ◌<◌, ◌≤◌, Bool, true, false, eqb, leb, List, [], ◌∷◌, map, length, get_or, take, drop, None, Ok, Err, Result, sym, refl, ap, ◌∙◌, subst, arith}
 use Rattle.std.proofs.lemmas.List.{get_or-take, length-take-le}
-use Rattle.std.proofs.lemmas.Bool.{and_from, eq-eqb, le-leb}
+use Rattle.std.proofs.lemmas.Bool.{and_from, le-leb}
 use Rattle.lexer.specs.declared.Token.{Token}
 use Rattle.lexer.specs.declared.Token.TheVariants.{LineEnd, Number, HugeNumber, Name, Capitals, Percent, Dots, Colon, Open, Close, Comma, Equals, Minus, End}
 use Rattle.lexer.specs.declared.LexicalFault.{LexicalFault}
@@ -11,7 +11,7 @@ use Rattle.lexer.specs.Meanings.{RunOf, Denotes}
 use Rattle.lexer.specs.Tilings.{is_end}
 use Rattle.lexer.proofs.Standing.{stands_where_read}
 use Rattle.lexer.proofs.Tiled.{reading_goes_on}
-use Rattle.pattern.specs.Names.{all_plain, short_name}
+use Rattle.pattern.specs.Names.{all_plain}
 use Rattle.description.specs.declared.descriptions.Description.{Description}
 use Rattle.description.specs.Descriptions.{names_of, rules_of}
 use Rattle.description.specs.Outlines.{Outline, declaration_of, production_of}

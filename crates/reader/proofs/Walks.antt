@@ -2,7 +2,7 @@
 -- Places change no accepted description, so they are left open here.
 use Rattle.std.proofs.Common.{◌≡◌, ℕ, zero, suc, ◌+◌, ◌-◌, ◌^◌, ◌<◌, ◌≤◌, Bool, true, false, cond, ◌&&◌, eqb, ltb, leb, List, [], ◌∷◌, ◌++◌, length, get_or, take, drop, is_some, Some, None, Ok, Err, codes, Option, Result, sym, refl, ap, ◌∙◌, subst, arith, length-append, length-drop}
 use Rattle.description.specs.Names.{same_text}
-use Rattle.std.specs.List.{AllByRecursion as All}
+use Rattle.std.specs.List.{AllByRecursion}
 use Rattle.std.proofs.lemmas.List.{get_or-drop, get_or_append_left, drop-drop, drop_at, take_at, drop_all, take-append-drop, length-take-le, get_or-take}
 use Rattle.std.proofs.ByRecursion.{All-get_or, All-from_get_or}
 use Rattle.std.proofs.lemmas.Bool.{cond_both, both_ways}
@@ -60,7 +60,7 @@ not_ended t f = go (is_end t) refl
 
 -- what stands after an offset, word by word
 module _ (bs : List ℕ) (o : ℕ) (h : o ≤ length bs) where
-  spaces_stand : (spaces rest : List ℕ) → drop o bs ≡ spaces ++ rest → All (λ b. b ≡ 32) spaces → SpacesOnly bs o (o + length spaces)
+  spaces_stand : (spaces rest : List ℕ) → drop o bs ≡ spaces ++ rest → AllByRecursion (λ b. b ≡ 32) spaces → SpacesOnly bs o (o + length spaces)
   spaces_stand spaces rest e a = (
     omega arith,
     λ k low high.
@@ -76,7 +76,7 @@ module _ (bs : List ℕ) (o : ℕ) (h : o ≤ length bs) where
   after_front : (front rest : List ℕ) → drop o bs ≡ front ++ rest → drop (o + length front) bs ≡ rest
   after_front front rest e = sym (drop-drop (length front) o bs) ∙ ap (drop (length front)) e ∙ drop_at front rest (length front) refl
 
-  end_stands : All (λ b. b ≡ 32) (drop o bs) → token_at bs o ≡ Ok (End, (length bs, 0))
+  end_stands : AllByRecursion (λ b. b ≡ 32) (drop o bs) → token_at bs o ≡ Ok (End, (length bs, 0))
   end_stands a =
       read_where_stands bs o h End (length bs) 0 (record {
         spaces = subst (SpacesOnly bs o) (length_after (drop o bs) refl) (spaces_stand (drop o bs) [] (sym (append_nil_is (drop o bs))) a);
@@ -88,7 +88,7 @@ module _ (bs : List ℕ) (o : ℕ) (h : o ≤ length bs) where
       append_nil_is [] = refl
       append_nil_is (x ∷ xs) = ap (λ ys. x ∷ ys) (append_nil_is xs)
 
-  word_stands : (k : Token) (spaces spelling rest : List ℕ) → drop o bs ≡ spaces ++ (spelling ++ rest) → All (λ b. b ≡ 32) spaces → Denotes k (spelling ++ rest) (length spelling) → token_at bs o ≡ Ok (k, (o + length spaces, length spelling))
+  word_stands : (k : Token) (spaces spelling rest : List ℕ) → drop o bs ≡ spaces ++ (spelling ++ rest) → AllByRecursion (λ b. b ≡ 32) spaces → Denotes k (spelling ++ rest) (length spelling) → token_at bs o ≡ Ok (k, (o + length spaces, length spelling))
   word_stands k spaces spelling rest e a d =
       let there = after_front spaces (spelling ++ rest) e in
       read_where_stands bs o h k (o + length spaces) (length spelling) (record {
@@ -256,7 +256,7 @@ module _ (bs : List ℕ) (o : ℕ) (h : o ≤ length bs) (t : Token) (p n : ℕ)
       ∙ ap (λ l. take (p - o) (drop o bs) ++ l)
       (drop-drop (p - o) o bs ∙ ap (λ i. drop i bs) back ∙ sym (take-append-drop n (drop p bs)) ∙ ap (λ l. take n (drop p bs) ++ l) (drop-drop n p bs))
 
-  front_spaces : All (λ b. b ≡ 32) (take (p - o) (drop o bs))
+  front_spaces : AllByRecursion (λ b. b ≡ 32) (take (p - o) (drop o bs))
   front_spaces =
       let long : length (take (p - o) (drop o bs)) ≡ p - o = length-take-le (p - o) (drop o bs) (omega (arith, length-drop o bs, there.inside)) in
       All-from_get_or (λ b. b ≡ 32) (take (p - o) (drop o bs)) 0 (λ i lt.
@@ -279,7 +279,7 @@ read_leads (suc turns) bs o s out h e = go (token_at bs o) refl e (read_leads tu
         let whole : p - o ≡ length (drop o bs) = omega (arith, length-drop o bs, end_is_last bs o h t p n e last) in
         let is = subst (λ t. carried (step s t p (take n (drop p bs))) (read_from turns bs (p + n)) ≡ Ok out) (ended t last) c in (
           [],
-          subst (All (λ b. b ≡ 32)) (ap (λ i. take i (drop o bs)) whole ∙ all_taken (drop o bs)) (front_spaces bs o h t p n there),
+          subst (AllByRecursion (λ b. b ≡ 32)) (ap (λ i. take i (drop o bs)) whole ∙ all_taken (drop o bs)) (front_spaces bs o h t p n there),
           (p, take n (drop p bs), carried_end (step s End p (take n (drop p bs))) _ out (end_stops s.awaits s p _) is),
         )
       where

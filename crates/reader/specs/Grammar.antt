@@ -1,6 +1,6 @@
 -- The text format of descriptions as a grammar: which bytes are which description. Nothing here reads.
-use Rattle.std.specs.Prelude.{◌≡◌, ℕ, zero, suc, ◌-◌, ◌^◌, ◌≤◌, true, false, ◌⊎◌, List, [], ◌∷◌, ◌++◌, length, Some, None, Ok, Err, codes, Option, ◌≢◌}
-use Rattle.std.specs.List.{flat_map, AllByRecursion as All}
+use Rattle.std.specs.Prelude.{◌≡◌, ℕ, zero, suc, ◌-◌, ◌^◌, ◌≤◌, true, ◌⊎◌, List, [], ◌∷◌, ◌++◌, length, Some, None, Ok, Err, codes, Option, ◌≢◌}
+use Rattle.std.specs.List.{flat_map, AllByRecursion}
 use Rattle.operators.specs.declared.Unary.{Unary}
 use Rattle.operators.specs.declared.Binary.{Binary}
 use Rattle.operators.specs.declared.Operator.TheVariants.{Cnst, Var, One, Two}
@@ -9,7 +9,6 @@ use Rattle.lexer.specs.declared.Token.{Token}
 use Rattle.lexer.specs.declared.Token.TheVariants.{LineEnd, Number, Name, Capitals, Percent, Dots, Colon, Open, Close, Comma, Equals, Minus, End}
 use Rattle.lexer.specs.Meanings.{Denotes}
 use Rattle.description.specs.Outlines.{Part, operand, one_sided, two_sided, constant, variable, Declaration, Production, Outline}
-use Rattle.reader.specs.Words.{is}
 use Rattle.reader.specs.Reading.{lies, within_limits, reading}
 
 -- a word of a text: a token's kind and its bytes
@@ -19,9 +18,9 @@ pub record Word : Type 0 where
 
 -- the bytes are these words: any spaces before each and at the end, and each word as long as can be
 abbrev pub Spaced : List Word → List ℕ → Type 0
-Spaced [] bytes = All (λ b. b ≡ 32) bytes
+Spaced [] bytes = AllByRecursion (λ b. b ≡ 32) bytes
 Spaced (w ∷ ws) bytes =
-    (spaces : List ℕ) × (rest : List ℕ) × (bytes ≡ spaces ++ (w.spelling ++ rest)) × All (λ b. b ≡ 32) spaces
+    (spaces : List ℕ) × (rest : List ℕ) × (bytes ≡ spaces ++ (w.spelling ++ rest)) × AllByRecursion (λ b. b ≡ 32) spaces
     × Denotes w.kind (w.spelling ++ rest) (length w.spelling) × (w.kind ≢ End) × Spaced ws rest
 
 abbrev pub name_word : List ℕ → Word
@@ -66,7 +65,7 @@ Named (d ∷ ds) (suc a) t = Named ds a t
 -- no two names have one text
 abbrev pub Apart : List Declaration → Type 0
 Apart [] = Unit {0}
-Apart (d ∷ ds) = All (λ e. e.spelled ≢ d.spelled) ds × Apart ds
+Apart (d ∷ ds) = AllByRecursion (λ e. e.spelled ≢ d.spelled) ds × Apart ds
 
 -- a pattern as a tree
 pub data Form : Type 0 where

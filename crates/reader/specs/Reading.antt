@@ -1,15 +1,15 @@
 -- Reading token by token: what may follow, what has been read, and the first fault reached. A fault is its number and its
 -- place; at one token the lowest number is told, so whether a token may follow (3) is asked before its value (4 to 8).
-use Rattle.std.specs.Prelude.{ℕ, zero, suc, ◌+◌, ◌-◌, ◌^◌, Bool, true, false, cond, not, ◌&&◌, ◌||◌, List, [], ◌∷◌, ◌++◌, length, take, drop, is_some, Some, None, Ok, Err, codes, Option, Result, ◌==◌, nat_le, nat_lt, slice_index}
+use Rattle.std.specs.Prelude.{ℕ, zero, suc, ◌+◌, ◌-◌, ◌^◌, Bool, false, cond, ◌&&◌, List, [], ◌∷◌, ◌++◌, length, take, drop, is_some, Some, None, Ok, Err, codes, Option, Result, ◌==◌, nat_le, nat_lt, slice_index}
 use Rattle.operators.specs.declared.Operator.{Operator}
 use Rattle.operators.specs.declared.Operator.TheVariants.{Cnst, Var, One, Two}
 use Rattle.lexer.specs.declared.Token.{Token}
-use Rattle.lexer.specs.declared.Token.TheVariants.{LineEnd, Number, HugeNumber, Name, Capitals, Percent, Dots, Colon, Open, Close, Comma, Equals, Minus, End}
+use Rattle.lexer.specs.declared.Token.TheVariants.{LineEnd, Name, Capitals, Percent, Dots, Colon, Open, Close, Comma, Equals, Minus, End}
 use Rattle.lexer.specs.declared.LexicalFault.{LexicalFault}
 use Rattle.lexer.specs.Bytes.{is_digit}
 use Rattle.lexer.specs.Tokens.{token_at, lexical_place}
 use Rattle.description.specs.Names.{same_text}
-use Rattle.description.specs.Outlines.{Part, operand, one_sided, two_sided, constant, variable, Declaration, Production, Outline}
+use Rattle.description.specs.Outlines.{Part, operand, one_sided, two_sided, constant, variable, Declaration, Outline}
 use Rattle.reader.specs.Words.{is, is_number, value_in, declared_from, operator_called}
 
 -- an open bracket of a pattern: how many parts its operator has, where the operator stands, how many parts are read

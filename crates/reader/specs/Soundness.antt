@@ -1,6 +1,6 @@
 -- What holds of the state of a reading at every token, so that what is read fits into a description.
 use Rattle.std.specs.Prelude.{◌≡◌, ℕ, zero, suc, ◌+◌, ◌<◌, ◌≤◌, Bool, true, false, List, [], ◌∷◌, ◌++◌, length, Some, None, Option, ◌==◌}
-use Rattle.std.specs.List.{AllByRecursion as All}
+use Rattle.std.specs.List.{AllByRecursion}
 use Rattle.description.specs.Outlines.{Part, operand, one_sided, two_sided, constant, variable, Outline}
 use Rattle.reader.specs.Words.{declared_from}
 use Rattle.reader.specs.Reading.{Bracket, Draft, Awaits, State, Outcome, header_end, directive, new_name, name_place, declaration_end, start_name, start_end, rule_or_end, left_colon, first_item, item, opening, after_item, after_constant, low_end, two_dots, high_end, mnemonic_word, size_number, cycles_number, rule_end, goes, ends, fails, within_limits, filled_one, renames}
@@ -52,7 +52,7 @@ LaidConstant bs xs =
 -- the rule has room, its names are declared, and its items keep the limits
 pub record Fitting (o : Outline) (d : Draft) : Type 0 where
   pub left_declared : d.left_name < length o.declarations
-  pub operands_declared : All (OperandIn (length o.declarations)) d.so_far
+  pub operands_declared : AllByRecursion (OperandIn (length o.declarations)) d.so_far
   pub limits : within_limits d.so_far ≡ true
   pub room : length o.productions < 128
 

@@ -1,12 +1,12 @@
 -- What the reader's memory stands for: the state and the outcomes of the definition of reading.
-use Rattle.std.specs.Prelude.{◌≡◌, ℕ, ◌-◌, ◌^◌, ◌≤◌, Bool, true, false, cond, List, [], ◌∷◌, ◌++◌, map, take, drop, Some, None, Ok, Err, Option, Result}
+use Rattle.std.specs.Prelude.{◌≡◌, ℕ, ◌-◌, ◌^◌, ◌≤◌, Bool, true, false, cond, List, [], ◌∷◌, ◌++◌, map, take, drop, None, Ok, Err, Option, Result}
 use Rattle.operators.specs.declared.Operator.{Operator}
 use Rattle.operators.specs.declared.Operator.TheVariants.{Cnst, Var, One, Two}
 use Rattle.lexer.specs.declared.Token.{Token}
 use Rattle.pattern.specs.Letters.{letters_of}
 use Rattle.description.specs.declared.descriptions.Description.{Description}
 use Rattle.description.specs.Descriptions.{names_of, rules_of, start_of}
-use Rattle.description.specs.Outlines.{Part, one_sided, two_sided, constant, variable, Declaration, Production, Outline, part_of, declaration_of, production_of, emitted, outline_of}
+use Rattle.description.specs.Outlines.{Part, one_sided, two_sided, constant, variable, Declaration, Production, part_of, declaration_of, production_of, emitted, outline_of}
 use Rattle.reader.specs.declared.faults.ReadFault.{ReadFault}
 use Rattle.reader.specs.declared.sketches.Opened.{Opened}
 use Rattle.reader.specs.declared.sketches.Sketch.{Sketch}

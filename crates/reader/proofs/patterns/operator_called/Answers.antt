@@ -3,8 +3,8 @@ use Rattle.reader.specs.Words.{operator_called}
 use Rattle.reader.proofs.Called.{called_is, no_text}
 use Rattle.reader.proofs.patterns.operator_called.Goals as goal
 
-pub returns-in-default : goal.returns-in-default
-returns-in-default c = no_text c.args.letters.now c.in-default.ensures.cases.0
+pub returns-in_default : goal.returns-in_default
+returns-in_default c = no_text c.args.letters.now c.in_default.ensures.cases.0
 
 pub returns : goal.returns
-returns c = called_is _ _ c.from-name.ensures ∙ ap operator_called c.in-Ok.ensures.cases.0
+returns c = called_is _ _ c.from_name.ensures ∙ ap operator_called c.in-Ok.ensures.cases.0

@@ -1,4 +1,4 @@
-use Rattle.std.proofs.Common.{◌≡◌, true, eqb, length, sym, ap, ◌∙◌, arith}
+use Rattle.std.proofs.Common.{eqb, length, sym, ap, ◌∙◌}
 use Rattle.lexer.specs.declared.Token.TheVariants.{Capitals}
 use Rattle.std.proofs.lemmas.Bool.{cond-true, and_from, eq-eqb}
 use Rattle.pattern.specs.Letters.{letters_of}
@@ -12,7 +12,7 @@ use Rattle.reader.proofs.progress.Progress.name_place.Goals as goal
 pub unreachable-requires : goal.unreachable-requires
 unreachable-requires c =
     let w = c.args.word.now in
-    c.in-default.ensures (one_capital w.token w.text.now w.spelled (sym c.if-not-is.ensures) c.if-word-ne1.false)
+    c.in_default.ensures (one_capital w.token w.text.now w.spelled (sym c.if-not-is.ensures) c.if-word-ne1.false)
 
 pub unreachable-requires-in-Err : goal.unreachable-requires-in-Err
 unreachable-requires-in-Err c = name_fits c.args.self.now (record { name = c.args.name; place = c.in-Some.place }) _ c.requires.0 c.requires.1 c.in-Err.ensures.1
