@@ -1,7 +1,6 @@
 -- The three cost kinds. An amount is a number up to 4294967295, at which a sum stops.
-use Rattle.std.specs.Prelude.{ℕ, ◌+◌, ◌-◌, ◌^◌, ◌<◌, min, max, Bool, true, false, cond, ◌&&◌, ◌||◌, ◌==◌, nat_le, nat_lt}
+use Rattle.std.specs.Prelude.{ℕ, ◌+◌, ◌-◌, ◌^◌, ◌<◌, min, max, true, false, cond, ◌&&◌, ◌||◌, ◌==◌, nat_le, nat_lt}
 use Rattle.std.proofs.Common.{arith}
-use Rattle.pattern.specs.declared.figures.Figures.{Figures}
 use Rattle.cost.specs.declared.kinds.Cycles.{Cycles}
 use Rattle.cost.specs.declared.kinds.Size.{Size}
 use Rattle.cost.specs.declared.kinds.Longest.{Longest}

@@ -2,7 +2,6 @@
 use Rattle.std.specs.Prelude.{◌≡◌, ℕ, ◌+◌, ◌-◌, ◌^◌, ◌<◌, true, false}
 use Rattle.std.proofs.Common.{arith}
 use Rattle.cost.specs.declared.kinds.Size.{Size}
-use Rattle.cost.specs.Kinds.{Kind}
 use Rattle.cost.specs.Amounts.{size_kind, stopped}
 
 -- a sum of sizes in which each half stops by itself

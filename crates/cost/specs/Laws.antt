@@ -1,13 +1,13 @@
 -- That each of the three kinds is lawful, for every value of its type.
-use Rattle.std.specs.Prelude.{◌≡◌, ℕ, ◌+◌, ◌*◌, ◌^◌, ◌<◌, ◌≤◌, min, max, Bool, true, false, cond, ◌&&◌, ◌||◌, ◌⊎◌, ◌==◌, nat_le, nat_lt, refl}
-use Rattle.std.proofs.Common.{sym, ap, ◌∙◌, inl, inr, ⊎_elim, arith}
+use Rattle.std.specs.Prelude.{◌≡◌, ℕ, ◌+◌, ◌*◌, ◌^◌, ◌<◌, ◌≤◌, min, true, ◌⊎◌, ◌==◌, nat_le, nat_lt}
+use Rattle.std.proofs.Common.{inl, inr, ⊎_elim, arith}
 use mathlib.Core.HLevel.{is_prop→PathP}
 use Rattle.std.proofs.Math.Bridge.{le_prop}
 use Rattle.std.proofs.lemmas.Bool.{leb-true, le-leb, ltb-true, lt-ltb, le-ltb, eqb-true, eq-eqb, and_parts, and_from, or_cases, or_left, or_right, cond-true, cond-false, cases_lt}
 use Rattle.cost.specs.declared.kinds.Cycles.{Cycles}
 use Rattle.cost.specs.declared.kinds.Size.{Size}
 use Rattle.cost.specs.declared.kinds.Longest.{Longest}
-use Rattle.cost.specs.Kinds.{Kind, Lawful}
+use Rattle.cost.specs.Kinds.{Lawful}
 use Rattle.cost.specs.Amounts.{cycles_kind, size_kind, longest_kind, second_half, last_amount}
 
 -- two values of a kind are equal if their amounts are

@@ -1,4 +1,3 @@
-use Rattle.std.proofs.Common.{refl}
 use Rattle.cost.specs.Laws.{same_longest}
 use Rattle.cost.proofs.amounts.LongestCost.plus.Goals as goal
 
