@@ -1,12 +1,12 @@
 -- The operands and the leaves of a pattern, by its items and by its shape.
-use Rattle.std.proofs.Common.{◌≡◌, ℕ, ◌+◌, ◌<◌, Bool, true, false, ◌&&◌, ltb, List, [], ◌∷◌, ◌++◌, length, get_or, sym, refl, ap, ◌∙◌, append_assoc, append-nil, arith}
+use Rattle.std.proofs.Common.{◌≡◌, ℕ, ◌<◌, true, false, ◌&&◌, ltb, List, [], ◌∷◌, ◌++◌, length, get_or, sym, refl, ap, ◌∙◌, append_assoc, append-nil, arith}
 use Rattle.std.proofs.lemmas.Bool.{false≢true}
 use Rattle.pattern.specs.declared.items.Item.{Item}
 use Rattle.pattern.specs.declared.items.Item.TheVariants.{Operand, Unary, Binary, Constant, Variable}
 use Rattle.pattern.specs.Items.{count_of_operands, count_of_leaves, leaves_in}
 use Rattle.pattern.specs.Shapes.{Shape, operand_shape, constant_shape, variable_shape, unary_shape, binary_shape, reading, operands_of, leaves_of}
 use Rattle.board.specs.Instructions.{operand_list, leaf_list, item_admits}
-use Rattle.board.specs.Payloads.{leaf_admits, admits_all}
+use Rattle.board.specs.Payloads.{admits_all}
 use Rattle.board.proofs.Fronts.{front, rest_of}
 
 pub operands_counted : (xs : List Item) → length (operand_list xs) ≡ count_of_operands xs

@@ -4,7 +4,7 @@ use Rattle.pattern.specs.Shapes.{shape_value}
 use Rattle.tree.specs.Refusals.{RefusedBy, GrantedBy}
 use Rattle.board.specs.Machines.{Machine, Operation, operation_of, operand_letters, operation_leaves, arity, leaf_total}
 use Rattle.board.specs.Payloads.{admits_all}
-use Rattle.board.specs.States.{Act, did_issue, did_store, State, free_in, code_in, waiting_in, end_from, values_from}
+use Rattle.board.specs.States.{did_issue, did_store, State, free_in, code_in, waiting_in, end_from, values_from}
 
 -- the last n of a list, and what stands before them
 abbrev pub last_of : {X : Type 0} → ℕ → List X → List X

@@ -1,6 +1,6 @@
 -- Which operation an instruction is, and the instruction of a mnemonic.
 use Rattle.std.specs.Prelude.{◌≡◌, ℕ, Bool, true, List, [], ◌∷◌, Some, None, Option, MatchOption, ◌≢◌}
-use Rattle.std.specs.List.{ContainsAt as Has, AllByRecursion as All}
+use Rattle.std.specs.List.{ContainsAt as Has, AllByRecursion}
 use Rattle.pattern.specs.declared.items.Item.{Item}
 use Rattle.pattern.specs.declared.items.Item.TheVariants.{Operand, Unary, Binary, Constant, Variable}
 use Rattle.pattern.specs.Letters.{letters_of}
@@ -53,7 +53,7 @@ pub record Denotes (i : Instruction) (o : Operation) : Type 0 where
 -- the instruction with that mnemonic, and none where no operation has it
 abbrev pub InstructionNamed : Machine → List ℕ → Option Instruction → Type 0
 InstructionNamed m name r =
-    MatchOption r (All (λ o. o.letters ≢ name) m.operations) (λ i. (o : Operation) × Has m.operations o × (o.letters ≡ name) × Denotes i o)
+    MatchOption r (AllByRecursion (λ o. o.letters ≢ name) m.operations) (λ i. (o : Operation) × Has m.operations o × (o.letters ≡ name) × Denotes i o)
 
 -- the instruction with that opcode, and none where there is none
 abbrev pub InstructionNumbered : Machine → ℕ → Option Instruction → Type 0

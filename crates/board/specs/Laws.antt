@@ -1,6 +1,6 @@
 -- What is true of every board: of what is fixed, and of every state.
 use Rattle.std.specs.Prelude.{◌≡◌, ℕ, ◌≤◌, true, List, [], ◌∷◌, length, ◌≢◌}
-use Rattle.std.specs.List.{AllByRecursion as All}
+use Rattle.std.specs.List.{AllByRecursion}
 use Rattle.pattern.specs.Items.{pattern_items}
 use Rattle.pattern.specs.Shapes.{reading}
 use Rattle.board.specs.Machines.{Machine, Operation}
@@ -9,7 +9,7 @@ use Rattle.board.specs.States.{State, code_in, waiting_in, depth_in, end_from, v
 -- no two of the operations have the same f
 abbrev pub NoTwoShare : {X : Type 0} → (Operation → X) → List Operation → Type 0
 NoTwoShare f [] = Unit {0}
-NoTwoShare f (o ∷ os) = All (λ q. f q ≢ f o) os × NoTwoShare f os
+NoTwoShare f (o ∷ os) = AllByRecursion (λ q. f q ≢ f o) os × NoTwoShare f os
 
 pub record LawfulMachine (m : Machine) : Type 0 where
   pub some_depth : 1 ≤ m.deepest
@@ -17,7 +17,7 @@ pub record LawfulMachine (m : Machine) : Type 0 where
   pub opcodes_once : NoTwoShare (λ o. o.opcode_number) m.operations
   pub mnemonics_once : NoTwoShare (λ o. o.letters) m.operations
   -- every meaning is a pattern within the limits
-  pub meanings_within : All (λ o. pattern_items (reading o.shape) ≡ true) m.operations
+  pub meanings_within : AllByRecursion (λ o. pattern_items (reading o.shape) ≡ true) m.operations
 
 pub record LawfulState (s : State) : Type 0 where
   -- with no code nothing waits, and each setting ends as itself

@@ -1,5 +1,5 @@
 -- What is fixed for a board: its depth limit, its store PLACE and its operations. A PLACE goes by the code of its letter.
-use Rattle.std.specs.Prelude.{◌≡◌, ℕ, cond, List, [], ◌∷◌, length, Some, None, Option, ◌==◌}
+use Rattle.std.specs.Prelude.{ℕ, cond, List, [], ◌∷◌, length, Some, None, Option, ◌==◌}
 use Rattle.pattern.specs.Shapes.{Shape, Leaf, operands_of, leaves_of}
 
 -- an operation: its opcode, the letters of its mnemonic, the PLACE of its result, and its meaning, a pattern whose operands are PLACES

@@ -11,8 +11,8 @@ pub returns : goal.returns
 returns c =
     let i = c.args.self.now in
     let w = c.args.waiting.now in
-    let from = c.saturating-sub-from.result in
+    let from = c.saturating_sub-from.result in
     let asked : i.meaning.operands ≡ length (instruction_operands i) = i.meaning.counted ∙ sym (operands_counted (items_of i.meaning)) in
     let whole : take (i.meaning.len - 0) i.meaning.items ≡ items_of i.meaning = ap (λ k. take k i.meaning.items) (sub-zero i.meaning.len) in
-    let start : from ≡ length w - length (instruction_operands i) = c.saturating-sub-from.ensures ∙ ap (λ k. length w - k) asked in
-    c.letters-match.ensures ∙ (λ j. bytes_eq (take_rest w from j) (operand_list (whole j))) ∙ ap (λ k. bytes_eq (drop k w) (instruction_operands i)) start
+    let start : from ≡ length w - length (instruction_operands i) = c.saturating_sub-from.ensures ∙ ap (λ k. length w - k) asked in
+    c.letters_match.ensures ∙ (λ j. bytes_eq (take_rest w from j) (operand_list (whole j))) ∙ ap (λ k. bytes_eq (drop k w) (instruction_operands i)) start

@@ -1,4 +1,4 @@
-use Rattle.std.proofs.Common.{◌+◌, drop, sym, ap, ◌∙◌}
+use Rattle.std.proofs.Common.{◌+◌, drop, sym, ◌∙◌}
 use Rattle.std.specs.Str.{bytes_eq}
 use Rattle.std.proofs.lemmas.List.{at_drop_all}
 use Rattle.pattern.proofs.ItemSteps.{step}
@@ -6,13 +6,13 @@ use Rattle.board.specs.Instructions.{operand_list}
 use Rattle.board.proofs.Fronts.{same_nothing}
 use Rattle.board.proofs.instructions.checks.letters_match.Goals as goal
 
-pub returns-in-default : goal.returns-in-default
-returns-in-default c =
+pub returns-in_default : goal.returns-in_default
+returns-in_default c =
     let xs = c.args.items.now in
     let i = c.loop-item.item-index in
     sym (c.loop-item.invariant
     ∙ step (λ ys. bytes_eq c.loop-item.rest.now (operand_list ys)) xs i c.item-item.result c.loop-item-test.true c.item-item.is
-    ∙ c.in-default.ensures (drop (i + 1) xs))
+    ∙ c.in_default.ensures (drop (i + 1) xs))
 
 pub loop-item-preserved : goal.loop-item-preserved
 loop-item-preserved c =
@@ -25,5 +25,5 @@ loop-item-preserved c =
 pub returns : goal.returns
 returns c =
     let rest = c.loop-item.rest.now in
-    c.is-empty.ensures
+    c.is_empty.ensures
     ∙ sym (c.loop-item.invariant ∙ at_drop_all (λ ys. bytes_eq rest (operand_list ys)) c.args.items.now c.loop-item.item-index c.loop-item-test.false ∙ same_nothing rest)

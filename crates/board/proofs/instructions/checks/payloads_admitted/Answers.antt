@@ -5,13 +5,13 @@ use Rattle.board.specs.Instructions.{leaf_list}
 use Rattle.board.specs.Payloads.{admits_all}
 use Rattle.board.proofs.instructions.checks.payloads_admitted.Goals as goal
 
-pub returns-in-default : goal.returns-in-default
-returns-in-default c =
+pub returns-in_default : goal.returns-in_default
+returns-in_default c =
     let xs = c.args.items.now in
     let i = c.loop-item.item-index in
     sym (c.loop-item.invariant
     ∙ step (λ ys. admits_all (leaf_list ys) c.loop-item.rest.now) xs i c.item-item.result c.loop-item-test.true c.item-item.is
-    ∙ c.in-default.ensures (drop (i + 1) xs))
+    ∙ c.in_default.ensures (drop (i + 1) xs))
 
 pub loop-item-preserved : goal.loop-item-preserved
 loop-item-preserved c =
