@@ -1,5 +1,5 @@
 -- The words of an emission, one by one.
-use Rattle.std.proofs.Common.{◌≡◌, ℕ, ◌≤◌, List, [], ◌∷◌, length, get_or, take, sym, refl, ap, ◌∙◌, arith}
+use Rattle.std.proofs.Common.{◌≡◌, ℕ, ◌≤◌, List, [], ◌∷◌, length, get_or, take, refl, ap, ◌∙◌, arith}
 use Rattle.processor.specs.declared.requests.Emission.{Emission}
 use Rattle.processor.specs.Requests.{words_of}
 

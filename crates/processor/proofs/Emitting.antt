@@ -1,13 +1,12 @@
 -- A board whose words grew by what an issue or a store appends.
-use Rattle.std.proofs.Common.{◌≡◌, ℕ, ◌+◌, ◌-◌, ◌≤◌, List, [], ◌∷◌, ◌++◌, length, take, sym, refl, ap, ◌∙◌, subst, arith, length-take}
-use Rattle.board.specs.Machines.{operand_letters, arity, leaf_total}
+use Rattle.std.proofs.Common.{◌≡◌, ℕ, ◌+◌, ◌≤◌, List, [], ◌∷◌, ◌++◌, length, take, sym, ap, ◌∙◌, subst, arith, length-take}
+use Rattle.board.specs.Machines.{arity, leaf_total}
 use Rattle.board.specs.Acts.{before_last, Issued, Stored}
 use Rattle.processor.specs.declared.requests.Emission.{Emission}
 use Rattle.processor.specs.Designs.{Design}
 use Rattle.processor.specs.Soundness.{Sound, issue_word, store_word}
 use Rattle.processor.specs.Boards.{state_of, Belongs}
 use Rattle.processor.specs.Requests.{words_of, Emits, EmitsStore}
-use Rattle.processor.proofs.Judging.{enough_wait}
 use Rattle.processor.proofs.Keeping.{issue_belongs, issued, store_belongs, stored}
 
 module _ (d : Design) (sound : Sound d) (ws w : List ℕ) (belongs : Belongs d ws w) (free : ℕ) (ws' w' : List ℕ) where

@@ -1,12 +1,11 @@
 -- A board's words and waiting PLACES belong together after every call, and its state changes as the calls promise.
-use Rattle.std.proofs.Common.{◌≡◌, ℕ, ◌+◌, ◌-◌, ◌<◌, ◌≤◌, true, false, cond, ◌&&◌, eqb, leb, List, [], ◌∷◌, ◌++◌, length, get_or, take, set, Some, None, Option, sym, refl, ap, ◌∙◌, subst, arith, length-set, length-take}
+use Rattle.std.proofs.Common.{◌≡◌, ℕ, ◌+◌, true, eqb, List, [], ◌∷◌, ◌++◌, length, take, Some, None, Option, sym, refl, ap, ◌∙◌, subst, arith, length-set, length-take}
 use Rattle.std.specs.Str.{bytes_eq}
 use Rattle.std.proofs.lemmas.Slice.Eq.{bytes_eq-Decides}
 use Rattle.std.proofs.lemmas.Bool.{and_from, eq-eqb, le-leb}
-use Rattle.pattern.specs.Shapes.{shape_value}
 use Rattle.board.specs.Machines.{Machine, Operation, operation_of, operand_letters, operation_leaves, arity, leaf_total}
 use Rattle.board.specs.Payloads.{admits_all}
-use Rattle.board.specs.States.{Act, did_issue, did_store, Outcome, State, end_from}
+use Rattle.board.specs.States.{Act, did_issue, did_store, Outcome, end_from}
 use Rattle.board.specs.Acts.{last_of, before_last, Issued, Stored, RunFails, wrong_count}
 use Rattle.board.specs.Laws.{LawfulState}
 use Rattle.processor.specs.Designs.{Design}

@@ -1,15 +1,14 @@
 -- Acts as words: reading back what was written, and how a simulation goes from one instruction to the next.
-use Rattle.std.proofs.Common.{◌≡◌, ℕ, ◌+◌, ◌-◌, ◌*◌, ◌/◌, ◌<◌, ◌≤◌, Bool, true, false, cond, ◌&&◌, eqb, ltb, leb, List, [], ◌∷◌, ◌++◌, length, get_or, Some, None, Option, sym, refl, ap, ◌∙◌, append_assoc, arith}
+use Rattle.std.proofs.Common.{◌≡◌, ℕ, ◌+◌, ◌-◌, ◌/◌, ◌≤◌, Bool, true, false, eqb, ltb, leb, List, [], ◌∷◌, ◌++◌, length, Some, None, Option, sym, refl, ap, ◌∙◌, append_assoc, arith}
 use Rattle.std.specs.Str.{bytes_eq}
 use Rattle.std.proofs.lemmas.Slice.Eq.{bytes_eq-Decides}
-use Rattle.std.proofs.lemmas.Bool.{and_parts, and_from, cond-true, cond-false, eqb-true, ne_eqb, leb-true, false≢true, lt-ltb, le-ltb}
-use Rattle.pattern.specs.Shapes.{Leaf}
+use Rattle.std.proofs.lemmas.Bool.{and_parts, and_from, cond-true, cond-false, eqb-true, ne_eqb, leb-true, false≢true}
 use Rattle.board.specs.Machines.{Machine, Operation, operation_of, operand_letters, operation_leaves, arity, leaf_total}
 use Rattle.board.specs.Payloads.{admits_all}
 use Rattle.board.specs.States.{Act, did_issue, did_store}
 use Rattle.board.specs.Acts.{last_of}
 use Rattle.processor.specs.Designs.{Design, store_opcode, first_word}
-use Rattle.processor.specs.Simulations.{Entry, operation_entry, store_entry, entry_by, entry_of, entry_leaves, takes_payload, has_payload, Running, step_of, go_on, Ending, left, simulated}
+use Rattle.processor.specs.Simulations.{operation_entry, store_entry, entry_by, entry_of, takes_payload, has_payload, Running, step_of, go_on, simulated}
 use Rattle.processor.specs.Codes.{issue_taken, taken, waiting_after, all_taken, waiting_after_all, operands_by, act_words, encoded, act_of, decoded}
 use Rattle.processor.specs.Soundness.{Sound}
 

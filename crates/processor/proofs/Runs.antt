@@ -1,19 +1,18 @@
 -- What is encoded runs: a simulation of the words of code that was taken goes through, and does what the meanings say.
-use Rattle.std.proofs.Common.{◌≡◌, ℕ, ◌+◌, ◌-◌, ◌/◌, true, false, cond, ◌&&◌, List, [], ◌∷◌, ◌++◌, length, get_or, set, Some, None, Option, sym, refl, ap, ◌∙◌, subst, arith}
+use Rattle.std.proofs.Common.{◌≡◌, ℕ, ◌+◌, ◌-◌, true, List, [], ◌∷◌, ◌++◌, length, get_or, set, sym, refl, ap, ◌∙◌, subst}
 use Rattle.std.proofs.lemmas.List.{nil_from_length}
 use Rattle.std.proofs.lemmas.Bool.{and_parts, and_from, cond-true, cond-false}
 use Rattle.pattern.specs.Shapes.{shape_value}
-use Rattle.board.specs.Machines.{Machine, Operation, operation_of, operand_letters, operation_leaves, arity}
-use Rattle.board.specs.Payloads.{admits_all}
-use Rattle.board.specs.States.{Act, did_issue, did_store, Outcome}
+use Rattle.board.specs.Machines.{operand_letters, arity}
+use Rattle.board.specs.States.{Act, did_issue, did_store}
 use Rattle.board.specs.Acts.{last_of, before_last}
 use Rattle.processor.specs.Designs.{Design, store_opcode, first_word}
-use Rattle.processor.specs.Simulations.{Entry, operation_entry, store_entry, entry_of, Running, carried_out, applied, stored_value, Step, fails, goes, step_by, step_of, go_on, left, simulated, from_start}
-use Rattle.processor.specs.Codes.{taken, waiting_by, waiting_after, all_taken, waiting_after_all, operands_by, issue_words, act_words, encoded}
+use Rattle.processor.specs.Simulations.{operation_entry, store_entry, entry_of, Running, carried_out, goes, step_by, step_of, go_on, left, simulated, from_start}
+use Rattle.processor.specs.Codes.{taken, waiting_by, waiting_after, all_taken, waiting_after_all, operands_by, encoded}
 use Rattle.processor.specs.Soundness.{Sound, OperationRuns, StoreRuns, issue_word, store_word}
 use Rattle.processor.specs.Boards.{outcome_by}
-use Rattle.processor.specs.Meanings.{meant_by, meant, meant_all, untouched, GoesThrough, EncodedRuns}
-use Rattle.processor.proofs.Lines.{IssueTaken, issue_read, StoreTaken, store_read, first_opcode, entry_known, ActLine, act_line, simulated_line}
+use Rattle.processor.specs.Meanings.{meant_by, meant, meant_all, untouched, EncodedRuns}
+use Rattle.processor.proofs.Lines.{IssueTaken, issue_read, StoreTaken, store_read, first_opcode, entry_known, act_line, simulated_line}
 
 module _ (d : Design) (sound : Sound d) where
   -- one act runs from a processor that holds the operands in the PLACES w

@@ -1,5 +1,5 @@
 -- One instruction of a simulation: where it stops, and how it goes on.
-use Rattle.std.proofs.Common.{◌≡◌, ℕ, ◌+◌, ◌-◌, ◌/◌, ◌<◌, Bool, true, false, cond, ltb, List, [], ◌∷◌, ◌++◌, length, get_or, Some, None, MatchBool, Option, sym, refl, ap, ◌∙◌, arith}
+use Rattle.std.proofs.Common.{◌≡◌, ℕ, ◌+◌, ◌-◌, ◌/◌, ◌<◌, Bool, true, false, cond, List, [], ◌∷◌, length, get_or, Some, None, MatchBool, sym, refl, ap, ◌∙◌, arith}
 use Rattle.std.proofs.lemmas.Bool.{cond-true, cond-false, lt-ltb, le-ltb}
 use Rattle.pattern.specs.Shapes.{Leaf}
 use Rattle.board.specs.Payloads.{admits_all}
@@ -8,9 +8,9 @@ use Rattle.board.specs.Instructions.{Denotes}
 use Rattle.board.specs.Machines.{Operation, arity}
 use Rattle.board.proofs.Fronts.{front, rest_of}
 use Rattle.processor.specs.Designs.{Design}
-use Rattle.processor.specs.Simulations.{Entry, entry_of, entry_letters, entry_leaves, entry_results, Running, carried_out, Step, fails, goes, step_by, step_of, takes_payload, has_payload, Ending, left, refused_at, go_on, simulated, GoesOn, Stops}
+use Rattle.processor.specs.Simulations.{Entry, entry_of, entry_letters, entry_leaves, entry_results, Running, carried_out, fails, goes, step_by, step_of, takes_payload, has_payload, left, refused_at, go_on, simulated, GoesOn, Stops}
 use Rattle.processor.proofs.Judging.{arity_is}
-use Rattle.processor.proofs.Lines.{Line, simulated_line}
+use Rattle.processor.proofs.Lines.{simulated_line}
 
 module _ (d : Design) (n f : ℕ) (s : Running) where
   -- a step that fails whatever its payloads are

@@ -1,6 +1,6 @@
 -- The operation of an opcode is the one that is listed with it.
-use Rattle.std.proofs.Common.{◌≡◌, ℕ, zero, suc, ◌+◌, ◌<◌, Bool, true, false, cond, not, ◌&&◌, eqb, List, [], ◌∷◌, map, length, get_or, Some, None, Option, sym, refl, ap, ◌∙◌, subst, arith}
-use Rattle.std.specs.List.{ContainsAt as Has, AllByRecursion as All}
+use Rattle.std.proofs.Common.{◌≡◌, ℕ, suc, Bool, true, false, not, ◌&&◌, eqb, List, [], ◌∷◌, map, Some, None, sym, refl, ap, ◌∙◌, subst, arith}
+use Rattle.std.specs.List.{ContainsAt as Has, AllByRecursion}
 use Rattle.std.specs.Str.{bytes_eq}
 use Rattle.std.proofs.lemmas.Slice.Eq.{bytes_eq-Decides}
 use Rattle.std.proofs.lemmas.Bool.{eqb-true, eqb-false, eq-eqb, ne_eqb, cond-true, cond-false, and_parts, not-true, both_ways}
@@ -17,11 +17,11 @@ has_among x [] a = elim a [ ]
 has_among x (y ∷ ys) (at_head _ _ e) = (0, omega arith, λ d. e)
 has_among x (y ∷ ys) (in_tail _ _ a) = let h = has_among x ys a in (suc h.0, omega (arith, h.1), h.2)
 
-pub all_among : {X : Type 0} (P : X → Type 0) (xs : List X) → ((x : X) → Among x xs → P x) → All P xs
+pub all_among : {X : Type 0} (P : X → Type 0) (xs : List X) → ((x : X) → Among x xs → P x) → AllByRecursion P xs
 all_among P [] f = tt
 all_among P (x ∷ xs) f = (f x (at_head x xs refl), all_among P xs (λ y a. f y (in_tail x xs a)))
 
-pub among_all : {X : Type 0} (P : X → Type 0) (xs : List X) (x : X) → All P xs → Among x xs → P x
+pub among_all : {X : Type 0} (P : X → Type 0) (xs : List X) (x : X) → AllByRecursion P xs → Among x xs → P x
 among_all P [] x h a = elim a [ ]
 among_all P (y ∷ ys) x h (at_head _ _ e) = subst P e h.0
 among_all P (y ∷ ys) x h (in_tail _ _ a) = among_all P ys x h.1 a
@@ -72,7 +72,7 @@ abbrev pub every : (Operation → Bool) → List Operation → Bool
 every t [] = true
 every t (o ∷ os) = t o && every t os
 
-pub every_all : (t : Operation → Bool) (os : List Operation) → every t os ≡ true → All (λ o. t o ≡ true) os
+pub every_all : (t : Operation → Bool) (os : List Operation) → every t os ≡ true → AllByRecursion (λ o. t o ≡ true) os
 every_all t [] e = tt
 every_all t (o ∷ os) e = let both = and_parts (t o) _ e in (both.0, every_all t os both.1)
 
@@ -89,7 +89,7 @@ module _ {X : Type 0} (same : X → X → Bool) (differ : (x y : X) → same x y
   all_alone [] = true
   all_alone (o ∷ os) = alone o os && all_alone os
 
-  alone_from : (o : Operation) (os : List Operation) → alone o os ≡ true → All (λ q. f q ≡ f o → ⊥) os
+  alone_from : (o : Operation) (os : List Operation) → alone o os ≡ true → AllByRecursion (λ q. f q ≡ f o → ⊥) os
   alone_from o [] e = tt
   alone_from o (q ∷ os) e =
       let both = and_parts (not (same (f q) (f o))) _ e in

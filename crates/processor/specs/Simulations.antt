@@ -1,5 +1,5 @@
 -- What a simulator does with a list of words: one instruction's step by the table, and the steps one after another.
-use Rattle.std.specs.Prelude.{◌≡◌, ℕ, ◌+◌, ◌-◌, ◌/◌, ◌<◌, Bool, true, false, cond, List, [], ◌∷◌, length, Some, None, Option, ◌==◌, ◌≢◌, nat_lt, slice_index, slice_set}
+use Rattle.std.specs.Prelude.{◌≡◌, ℕ, ◌+◌, ◌-◌, ◌/◌, ◌<◌, Bool, false, cond, List, [], ◌∷◌, length, Some, None, Option, ◌==◌, ◌≢◌, nat_lt, slice_index, slice_set}
 use Rattle.pattern.specs.Shapes.{Leaf, variable_number, shape_value}
 use Rattle.board.specs.Machines.{Operation, operation_of, operand_letters, operation_leaves, arity}
 use Rattle.board.specs.Payloads.{admits_all}

@@ -1,11 +1,11 @@
-use Rattle.std.proofs.Common.{◌≡◌, ℕ, ◌<◌, Some, sym, ap, ◌∙◌, subst, ⊎_elim, arith}
+use Rattle.std.proofs.Common.{◌≡◌, ◌<◌, Some, sym, ap, ◌∙◌, ⊎_elim, arith}
 use Rattle.std.proofs.lemmas.Bool.{cases_lt, both_ways}
 use Rattle.pattern.specs.Letters.{letters_of}
-use Rattle.board.specs.Machines.{Operation, operation_of}
+use Rattle.board.specs.Machines.{operation_of}
 use Rattle.processor.proofs.Judging.{some_same, none_some}
 use Rattle.processor.proofs.Tables.{found_among, listed_found, has_among, all_among}
 use Rattle.processor.proofs.naming.named.Goals as goal
-use Rattle.processor.proofs.naming.named.Goals.{in-Some+else-eq, in-default}
+use Rattle.processor.proofs.naming.named.Goals.{in-Some+else-eq, in_default}
 
 pub loop-opcode-preserved : goal.loop-opcode-preserved
 loop-opcode-preserved g c n o l e h =
@@ -18,8 +18,8 @@ loop-opcode-preserved g c n o l e h =
       | in-Some+else-eq w ↦
           let found = w.in-Some.ensures in
           let spelt : letters_of w.in-Some.instruction.mnemonic ≡ letters_of c.args.mnemonic.now = found.2.mnemonic_is ∙ ap (λ x. x.letters) (some_same found.1 here) ∙ h in
-          both_ways _ w.if-eq.false (w.eq.ensures.1 spelt)
-      | in-default w ↦ none_some w.in-default.ensures here
+          both_ways _ w.if-eq.false (w.eq.ensures.same.1 spelt)
+      | in_default w ↦ none_some w.in_default.ensures here
     ])
     (cases_lt n k)
 
@@ -28,7 +28,7 @@ returns-then-eq g c =
     let found = c.in-Some.ensures in
     let m = g.P.Processor.design.fixed_part in
     let is = found_among m.operations c.loop-opcode.opcode found.0 found.1 in
-    (found.0, has_among found.0 m.operations is.0, sym found.2.mnemonic_is ∙ c.eq.ensures.0 c.if-eq.true, found.2)
+    (found.0, has_among found.0 m.operations is.0, sym found.2.mnemonic_is ∙ c.eq.ensures.same.0 c.if-eq.true, found.2)
 
 pub returns : goal.returns
 returns g c =

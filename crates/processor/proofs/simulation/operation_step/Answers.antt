@@ -1,4 +1,4 @@
-use Rattle.std.proofs.Common.{◌≡◌, ◌+◌, ◌<◌, [], ◌∷◌, length, get_or, sym, refl, ap, ◌∙◌, arith, ltb-false, ltb-true}
+use Rattle.std.proofs.Common.{◌≡◌, ◌+◌, ◌<◌, [], ◌∷◌, length, get_or, sym, ap, ◌∙◌, arith, ltb-false, ltb-true}
 use Rattle.std.proofs.lemmas.Bool.{both_ways}
 use Rattle.std.proofs.lemmas.List.{nil_from_length}
 use Rattle.board.specs.Machines.{leaf_total}
@@ -30,8 +30,8 @@ returns-then-instruction-eq0 g c =
     (goes_alone d c.args.place f (running σ own) (operation_entry o) c.requires.1 placed c.args.after.now none
     ∙ ap (λ w. simulated d (c.args.place + 1) c.args.after.now (running σ w)) (sym done))
 
-pub returns-in-default : goal.returns-in-default
-returns-in-default g c =
+pub returns-in_default : goal.returns-in_default
+returns-in_default g c =
     let d = g.P.Processor.design in
     let o = c.requires.0 in
     let f = c.args.first in

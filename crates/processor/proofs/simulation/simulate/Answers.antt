@@ -1,13 +1,13 @@
-use Rattle.std.proofs.Common.{◌≡◌, ◌+◌, ◌-◌, ◌<◌, [], ◌∷◌, length, get_or, sym, refl, ap, ◌∙◌, arith, ltb-false, ltb-true}
+use Rattle.std.proofs.Common.{◌≡◌, ◌+◌, ◌-◌, ◌<◌, [], ◌∷◌, length, get_or, refl, ap, ◌∙◌, arith, ltb-false, ltb-true}
 use Rattle.std.proofs.lemmas.List.{nil_from_length}
 use Rattle.std.proofs.lemmas.Result.{err_from_is_err_and}
 use Rattle.board.proofs.Fronts.{front, rest_of}
 use Rattle.processor.specs.Simulations.{running, simulated, at_instruction}
 use Rattle.processor.proofs.simulation.simulate.Goals as goal
 
-pub returns-in-err-rest : goal.returns-in-err-rest
-returns-in-err-rest g c =
-    let p = err_from_is_err_and c.from-residual.result c.from-residual.ensures.1 in
+pub returns-in_err-rest : goal.returns-in_err-rest
+returns-in_err-rest g c =
+    let p = err_from_is_err_and c.from_residual.result c.from_residual.ensures.1 in
     let d = g.P.Processor.design in
     let rest = c.loop-rest.rest.now in
     let some : 0 < length rest = omega (arith, ltb-true, ltb-false) in
@@ -15,7 +15,7 @@ returns-in-err-rest g c =
     rw (p.1, p.2) (
       refl,
       at_instruction c.if-variables-ne-VARIABLES.false
-          (c.loop-rest.invariant.0 ∙ ap (λ l. simulated d (length c.args.words.now - length rest) l s) (front rest some) ∙ c.in-err-rest.ensures),
+          (c.loop-rest.invariant.0 ∙ ap (λ l. simulated d (length c.args.words.now - length rest) l s) (front rest some) ∙ c.in_err-rest.ensures),
     )
 
 pub loop-rest-preserved : goal.loop-rest-preserved
@@ -23,11 +23,11 @@ loop-rest-preserved g c =
     let d = g.P.Processor.design in
     let words = c.args.words.now in
     let rest = c.loop-rest.rest.now in
-    let next = c.in-ok-rest.rest.now in
+    let next = c.in_ok-rest.rest.now in
     let some : 0 < length rest = omega (arith, ltb-true, ltb-false) in
     let s = running c.loop-rest.setting (g.P.Processor.own c.loop-rest.processor) in
     let s' = running c.step.new.setting (g.P.Processor.own c.step.new.processor) in
-    let on = c.in-ok-rest.ensures in
+    let on = c.in_ok-rest.ensures in
     let whole = ap length (front rest some) in
     let place : length words - length rest + (length (get_or rest 0 0 ∷ rest_of rest) - length next) ≡ length words - length next = omega (arith, whole, on.shorter, c.loop-rest.invariant.1) in (
       c.loop-rest.invariant.0 ∙ ap (λ l. simulated d (length words - length rest) l s) (front rest some) ∙ on.goes_to ∙ ap (λ k. simulated d k next s') place,
@@ -44,5 +44,5 @@ returns g c =
       counted = c.if-variables-ne-VARIABLES.false;
       at_end = s;
       goes_through = c.loop-rest.invariant.0 ∙ ap (λ l. simulated g.P.Processor.design (length c.args.words.now - length rest) l s) nothing;
-      leaves = c.copy-from-slice-2.ensures.after;
+      leaves = c.copy_from_slice-2.ensures.after;
     }

@@ -1,10 +1,10 @@
 use Rattle.std.proofs.Common.{◌≡◌, ◌<◌, true, false, leb, [], ◌∷◌, length, get_or, set, sym, refl, ap, ◌∙◌, arith, ltb-false, ltb-true}
 use Rattle.std.proofs.lemmas.Bool.{and_from, le-leb, both_ways}
 use Rattle.board.proofs.Fronts.{rest_of}
-use Rattle.processor.specs.Simulations.{store_entry, entry_of, Running, running, carried_out, simulated}
+use Rattle.processor.specs.Simulations.{store_entry, entry_of, running, carried_out, simulated}
 use Rattle.processor.proofs.Steps.{goes_with, on_with}
 use Rattle.processor.proofs.simulation.store_step.Goals as goal
-use Rattle.processor.proofs.simulation.store_step.Goals.{in-Some, in-default-take}
+use Rattle.processor.proofs.simulation.store_step.Goals.{in-Some, in_default-take}
 
 pub returns : goal.returns
 returns g c =
@@ -21,8 +21,8 @@ returns g c =
       | in-Some w ↦
           let is = w.in-Some.ensures in
           sym (λ i. running ((w.setting-is ∙ ap (set c.args.setting.now (get_or ws 0 0)) is.0) i) (is.1 i))
-      | in-default-take w ↦ absurd (both_ways _ placed w.in-default-take.ensures.0)
+      | in_default-take w ↦ absurd (both_ways _ placed w.in_default-take.ensures.0)
     ] in
     on_with d c.args.place f s _ ws some
-    (goes_with d c.args.place f s store_entry known placed (get_or ws 0 0) (rest_of ws) (omega arith) (and_from (leb (get_or ws 0 0) 63) true (le-leb _ 63 c.if-variable-gt-LAST-VARIABLE.false) refl)
+    (goes_with d c.args.place f s store_entry known placed (get_or ws 0 0) (rest_of ws) (omega arith) (and_from (leb (get_or ws 0 0) 63) true (le-leb _ 63 c.if-variable-gt-LAST_VARIABLE.false) refl)
     ∙ ap (simulated d _ (rest_of ws)) after)

@@ -1,33 +1,33 @@
-use Rattle.std.proofs.Common.{◌≡◌, ◌+◌, ◌-◌, ◌≤◌, [], ◌∷◌, length, take, sym, refl, ap, ◌∙◌, arith}
+use Rattle.std.proofs.Common.{◌≡◌, ◌+◌, ◌-◌, ◌≤◌, [], ◌∷◌, length, take, refl, ap, ◌∙◌, arith}
 use Rattle.board.specs.Machines.{operand_letters, arity, leaf_total}
 use Rattle.processor.specs.Designs.{first_word}
 use Rattle.processor.proofs.Judging.{arity_is, leaf_total_is, leaves_limited, enough_wait, front_words}
 use Rattle.processor.proofs.requests.judging.judge_issue.Goals as goal
 
-pub overflow-sub-below : goal.overflow-sub-below
-overflow-sub-below g c =
-    let found = c.in-ok-instruction.ensures in
+pub overflow_sub-below : goal.overflow_sub-below
+overflow_sub-below g c =
+    let found = c.in_ok-instruction.ensures in
     let o = found.by in
-    omega (arith, enough_wait c.args.waiting.now (operand_letters o) found.allowed.operands_wait, arity_is c.in-ok-instruction.instruction o found.is)
+    omega (arith, enough_wait c.args.waiting.now (operand_letters o) found.allowed.operands_wait, arity_is c.in_ok-instruction.instruction o found.is)
 
-pub first-word-requires : goal.first-word-requires
-first-word-requires g c =
-    let found = c.in-ok-instruction.ensures in
+pub first_word-requires : goal.first_word-requires
+first_word-requires g c =
+    let found = c.in_ok-instruction.ensures in
     g.met.P.Processor.sound.opcodes_short c.args.opcode found.by found.allowed.is
 
-pub overflow-add-result : goal.overflow-add-result
-overflow-add-result g c = let few = leaves_limited c.in-ok-instruction.instruction.meaning in omega arith
+pub overflow_add-result : goal.overflow_add-result
+overflow_add-result g c = let few = leaves_limited c.in_ok-instruction.instruction.meaning in omega arith
 
-pub invariant-of-result : goal.invariant-of-result
-invariant-of-result g c =
-    let found = c.in-ok-instruction.ensures in
+pub invariant_of-result : goal.invariant_of-result
+invariant_of-result g c =
+    let found = c.in_ok-instruction.ensures in
     let few : leaf_total found.by ≤ 1 = g.met.P.Processor.sound.one_payload c.args.opcode found.by found.allowed.is in
-    (refl, (omega (arith, leaf_total_is c.in-ok-instruction.instruction found.by found.is), tt))
+    record { sized = refl; within = omega (arith, leaf_total_is c.in_ok-instruction.instruction found.by found.is) }
 
 pub returns : goal.returns
 returns g c =
-    let found = c.in-ok-instruction.ensures in
-    let i = c.in-ok-instruction.instruction in
+    let found = c.in_ok-instruction.ensures in
+    let i = c.in_ok-instruction.instruction in
     let o = found.by in
     let d = g.P.Processor.design in
     let w = c.args.waiting.now in
