@@ -1,11 +1,11 @@
 -- A board after an issue and after a store.
-use Rattle.std.proofs.Common.{◌≡◌, ℕ, ◌+◌, ◌-◌, ◌<◌, ◌≤◌, List, [], ◌∷◌, ◌++◌, length, take, replicate, sym, refl, ap, ◌∙◌, subst, arith}
+use Rattle.std.proofs.Common.{◌≡◌, ℕ, ◌+◌, ◌-◌, ◌≤◌, List, [], ◌∷◌, ◌++◌, length, take, replicate, sym, refl, ap, ◌∙◌, subst, arith}
 use Rattle.std.proofs.lemmas.List.{replicate_more, take-replicate, length-replicate, length-take-le}
 use Rattle.board.specs.Acts.{before_last, Issued, Stored}
 use Rattle.processor.specs.declared.requests.Emission.{Emission}
-use Rattle.processor.specs.Boards.{Belongs, state_of}
+use Rattle.processor.specs.Boards.{Belongs}
 use Rattle.processor.specs.Requests.{words_of, Emits, EmitsStore}
-use Rattle.processor.proofs.Emitting.{count_is, room_for, some_words, below_deepest, emitted_belongs, emitted, stored_belongs, store_emitted}
+use Rattle.processor.proofs.Emitting.{room_for, some_words, below_deepest, emitted_belongs, emitted, stored_belongs, store_emitted}
 use Rattle.stk.specs.declared.boards.Stk.{Stk}
 use Rattle.stk.specs.Boards.{code_words, waiting_places, stk_state, Wrote, Grew, WroteIssue, WroteStore}
 use Rattle.stk.specs.Designs.{stk_design}

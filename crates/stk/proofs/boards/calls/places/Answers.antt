@@ -1,4 +1,4 @@
-use Rattle.std.proofs.Common.{◌≡◌, ℕ, take, replicate, ap, ◌∙◌}
+use Rattle.std.proofs.Common.{take, replicate, ap, ◌∙◌}
 use native.Mathlib.Nat.{sub-zero}
 use Rattle.std.proofs.lemmas.List.{take-replicate}
 use Rattle.stk.specs.Table.{stack_place}

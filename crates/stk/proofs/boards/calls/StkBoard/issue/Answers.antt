@@ -7,18 +7,18 @@ use Rattle.stk.specs.Designs.{stk_design}
 use Rattle.stk.proofs.Growth.{room_in, issue_some, issue_fits, issue_shallow, issue_grows, issue_done, issue_wrote}
 use Rattle.stk.proofs.boards.calls.StkBoard.issue.Goals as goal
 
-pub returns-in-err-emission : goal.returns-in-err-emission
-returns-in-err-emission c =
-    let p = err_from_is_err_and c.from-residual.result c.from-residual.ensures.1 in
+pub returns-in_err-emission : goal.returns-in_err-emission
+returns-in_err-emission c =
+    let p = err_from_is_err_and c.from_residual.result c.from_residual.ensures.1 in
     let b = c.args.self.now in
-    let refused = subst (λ w. IssueRefused stk_design w (room_in b) c.args.opcode c.args.first c.args.second (board_number c.in-err-emission.field-0.0) (board_place c.in-err-emission.field-0.0)) c.places-waiting.ensures c.in-err-emission.ensures in
+    let refused = subst (λ w. IssueRefused stk_design w (room_in b) c.args.opcode c.args.first c.args.second (board_number c.in_err-emission.field-0.0) (board_place c.in_err-emission.field-0.0)) c.places-waiting.ensures c.in_err-emission.ensures in
     rw (p.1, p.2) (record { fixed = refl; outcome = (refl, refused); memory = refl })
 
-pub push-one-requires : goal.push-one-requires
-push-one-requires c =
+pub push_one-requires : goal.push_one-requires
+push_one-requires c =
     let b = c.args.self.now in
-    let e = c.in-ok-emission.emission in
-    let em = subst (λ w. Emits stk_design w (room_in b) c.args.opcode c.args.first c.args.second e) c.places-waiting.ensures c.in-ok-emission.ensures in
+    let e = c.in_ok-emission.emission in
+    let em = subst (λ w. Emits stk_design w (room_in b) c.args.opcode c.args.first c.args.second e) c.places-waiting.ensures c.in_ok-emission.ensures in
     record {
       room = omega (arith, issue_fits b c.args.opcode c.args.first c.args.second e em, c.if-emission-eq1.true);
       shallow = issue_shallow b c.args.opcode c.args.first c.args.second e em;
@@ -28,20 +28,20 @@ push-one-requires c =
 pub returns-then-emission-eq1 : goal.returns-then-emission-eq1
 returns-then-emission-eq1 c =
     let b = c.args.self.now in
-    let e = c.in-ok-emission.emission in
-    let em = subst (λ w. Emits stk_design w (room_in b) c.args.opcode c.args.first c.args.second e) c.places-waiting.ensures c.in-ok-emission.ensures in
+    let e = c.in_ok-emission.emission in
+    let em = subst (λ w. Emits stk_design w (room_in b) c.args.opcode c.args.first c.args.second e) c.places-waiting.ensures c.in_ok-emission.ensures in
     let words = one_word e c.if-emission-eq1.true in
     record {
       fixed = refl;
-      outcome = issue_done b c.args.opcode c.args.first c.args.second e em _ words c.push-one.new.self c.push-one.ensures;
-      memory = issue_wrote b c.args.opcode c.args.first c.args.second e em _ words c.push-one.new.self c.push-one.ensures;
+      outcome = issue_done b c.args.opcode c.args.first c.args.second e em _ words c.push_one.new.self c.push_one.ensures;
+      memory = issue_wrote b c.args.opcode c.args.first c.args.second e em _ words c.push_one.new.self c.push_one.ensures;
     }
 
-pub push-two-requires : goal.push-two-requires
-push-two-requires c =
+pub push_two-requires : goal.push_two-requires
+push_two-requires c =
     let b = c.args.self.now in
-    let e = c.in-ok-emission.emission in
-    let em = subst (λ w. Emits stk_design w (room_in b) c.args.opcode c.args.first c.args.second e) c.places-waiting.ensures c.in-ok-emission.ensures in
+    let e = c.in_ok-emission.emission in
+    let em = subst (λ w. Emits stk_design w (room_in b) c.args.opcode c.args.first c.args.second e) c.places-waiting.ensures c.in_ok-emission.ensures in
     let some = issue_some b c.args.opcode c.args.first c.args.second e em in
     record {
       room = omega (arith, some, issue_fits b c.args.opcode c.args.first c.args.second e em, c.if-emission-eq1.false);
@@ -52,11 +52,11 @@ push-two-requires c =
 pub returns : goal.returns
 returns c =
     let b = c.args.self.now in
-    let e = c.in-ok-emission.emission in
-    let em = subst (λ w. Emits stk_design w (room_in b) c.args.opcode c.args.first c.args.second e) c.places-waiting.ensures c.in-ok-emission.ensures in
+    let e = c.in_ok-emission.emission in
+    let em = subst (λ w. Emits stk_design w (room_in b) c.args.opcode c.args.first c.args.second e) c.places-waiting.ensures c.in_ok-emission.ensures in
     let words = two_words e (issue_some b c.args.opcode c.args.first c.args.second e em) c.if-emission-eq1.false in
     record {
       fixed = refl;
-      outcome = issue_done b c.args.opcode c.args.first c.args.second e em _ words c.push-two.new.self c.push-two.ensures;
-      memory = issue_wrote b c.args.opcode c.args.first c.args.second e em _ words c.push-two.new.self c.push-two.ensures;
+      outcome = issue_done b c.args.opcode c.args.first c.args.second e em _ words c.push_two.new.self c.push_two.ensures;
+      memory = issue_wrote b c.args.opcode c.args.first c.args.second e em _ words c.push_two.new.self c.push_two.ensures;
     }

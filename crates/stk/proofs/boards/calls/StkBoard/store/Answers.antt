@@ -10,17 +10,17 @@ use Rattle.stk.specs.Table.{stack_place}
 use Rattle.stk.proofs.Growth.{room_in, store_grows, store_done, store_wrote}
 use Rattle.stk.proofs.boards.calls.StkBoard.store.Goals as goal
 
-pub returns-in-err-words : goal.returns-in-err-words
-returns-in-err-words c =
-    let p = err_from_is_err_and c.from-residual.result c.from-residual.ensures.1 in
-    let refused = subst (λ w. StoreRefused stk_design w (room_in c.args.self.now) c.args.variable (board_number c.in-err-words.field-0.0) (board_place c.in-err-words.field-0.0)) c.places-waiting.ensures c.in-err-words.ensures in
+pub returns-in_err-words : goal.returns-in_err-words
+returns-in_err-words c =
+    let p = err_from_is_err_and c.from_residual.result c.from_residual.ensures.1 in
+    let refused = subst (λ w. StoreRefused stk_design w (room_in c.args.self.now) c.args.variable (board_number c.in_err-words.field-0.0) (board_place c.in_err-words.field-0.0)) c.places-waiting.ensures c.in_err-words.ensures in
     rw (p.1, p.2) (record { fixed = refl; outcome = (refl, refused); memory = refl })
 
-pub push-two-requires : goal.push-two-requires
-push-two-requires c =
+pub push_two-requires : goal.push_two-requires
+push_two-requires c =
     let b = c.args.self.now in
-    let ws = c.in-ok-words.words in
-    let em = subst (λ w. EmitsStore stk_design w (room_in b) c.args.variable ws) c.places-waiting.ensures c.in-ok-words.ensures in
+    let ws = c.in_ok-words.words in
+    let em = subst (λ w. EmitsStore stk_design w (room_in b) c.args.variable ws) c.places-waiting.ensures c.in_ok-words.ensures in
     record {
       room = omega (arith, em.allowed.room);
       shallow = omega (arith, b.shallow);
@@ -30,11 +30,11 @@ push-two-requires c =
 pub returns : goal.returns
 returns c =
     let b = c.args.self.now in
-    let ws = c.in-ok-words.words in
-    let em = subst (λ w. EmitsStore stk_design w (room_in b) c.args.variable ws) c.places-waiting.ensures c.in-ok-words.ensures in
-    let grew = subst (λ us. Grew b us (b.depth - 1) c.push-two.new.self) (sym (pair_of ws (ap length em.words_are))) c.push-two.ensures in
+    let ws = c.in_ok-words.words in
+    let em = subst (λ w. EmitsStore stk_design w (room_in b) c.args.variable ws) c.places-waiting.ensures c.in_ok-words.ensures in
+    let grew = subst (λ us. Grew b us (b.depth - 1) c.push_two.new.self) (sym (pair_of ws (ap length em.words_are))) c.push_two.ensures in
     record {
       fixed = refl;
-      outcome = store_done b c.args.variable ws em c.push-two.new.self grew;
-      memory = store_wrote b c.args.variable ws em c.push-two.new.self grew;
+      outcome = store_done b c.args.variable ws em c.push_two.new.self grew;
+      memory = store_wrote b c.args.variable ws em c.push_two.new.self grew;
     }

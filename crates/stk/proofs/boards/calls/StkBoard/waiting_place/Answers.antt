@@ -7,7 +7,7 @@ pub returns-then-depth-self : goal.returns-then-depth-self
 returns-then-depth-self c =
     let b = c.args.self.now in (
       omega (arith, length-replicate b.depth stack_place),
-      c.store-place.ensures ∙ sym (get_or-replicate b.depth c.args.depth stack_place 0 c.if-depth-self.true),
+      c.store_place.ensures ∙ sym (get_or-replicate b.depth c.args.depth stack_place 0 c.if-depth-self.true),
     )
 
 pub returns-else-depth-self : goal.returns-else-depth-self

@@ -1,7 +1,6 @@
-use Rattle.std.proofs.Common.{◌≡◌, ◌+◌, ◌-◌, ◌≤◌, true, false, [], ◌∷◌, ◌++◌, length, take, drop, set, sym, refl, ap, ◌∙◌, arith}
+use Rattle.std.proofs.Common.{◌-◌, ◌≤◌, [], ◌∷◌, ◌++◌, length, sym, refl, ap, ◌∙◌, arith}
 use Rattle.std.proofs.lemmas.List.{length-take-le, take_more_set}
 use Rattle.pattern.specs.Shapes.{shape_value}
-use Rattle.board.specs.Machines.{arity}
 use Rattle.board.specs.Acts.{last_of, before_last}
 use Rattle.processor.proofs.Judging.{arity_is}
 use Rattle.processor.proofs.Steps.{asked_at}
