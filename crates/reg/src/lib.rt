@@ -4,5 +4,5 @@
 pub mod boards;
 pub mod laws;
 mod opcodes;
-pub mod processor;
+pub mod register_files;
 pub mod simulator;

@@ -12,5 +12,5 @@ use processor::simulation;
 pub fn simulate(words: &[u32], variables: &mut [u32]) -> Result<(), SimulatorFault>
     ensures { MatchResult result (λ _. Simulated reg_design words.now variables.old variables.new) (λ e. (variables.new ≡ variables.old) × SimulationDenied reg_design words.now variables.old (simulator_number e) (simulator_place e)) }
 {
-    simulation::simulate::<crate::processor::RegisterProcessor>(words, variables)
+    simulation::simulate::<crate::register_files::RegisterProcessor>(words, variables)
 }

@@ -11,7 +11,7 @@ ghost use Rattle.reg.specs.Table.{reg_machine};
 ghost use Rattle.reg.specs.Lawful.{reg_lawful};
 
 use super::Reg;
-use crate::processor::RegisterProcessor;
+use crate::register_files::RegisterProcessor;
 use board::Board;
 use board::faults::{BoardFault, RunFault};
 use board::instructions::Instruction;

@@ -4,10 +4,15 @@ use Rattle.processor.proofs.Writing.{wrote_one, rest_one}
 use Rattle.reg.specs.Designs.{reg_design}
 use Rattle.reg.proofs.boards.Reg.push_one.Goals as goal
 
-pub invariant-of-self : goal.invariant-of-self
-invariant-of-self c =
+pub invariant_of-self : goal.invariant_of-self
+invariant_of-self c =
     let b = c.args.self.now in
-    (omega (arith, length-set b.memory.now b.len c.args.first, c.requires.room), (c.requires.sized, (c.requires.shallow, (subst (λ ws. Belongs reg_design ws (take c.args.depth c.args.waiting)) (sym (wrote_one b.memory.now b.len c.args.first c.requires.room)) c.requires.belongs, tt))))
+    record {
+      within = omega (arith, length-set b.memory.now b.len c.args.first, c.requires.room);
+      sized = c.requires.sized;
+      shallow = c.requires.shallow;
+      belongs = subst (λ ws. Belongs reg_design ws (take c.args.depth c.args.waiting)) (sym (wrote_one b.memory.now b.len c.args.first c.requires.room)) c.requires.belongs;
+    }
 
 pub returns : goal.returns
 returns c =

@@ -5,16 +5,26 @@ use Rattle.reg.specs.Boards.{waiting_places}
 use Rattle.reg.specs.Designs.{reg_design}
 use Rattle.reg.proofs.boards.Reg.push_two.Goals as goal
 
-pub invariant-of-self : goal.invariant-of-self
-invariant-of-self c =
+pub invariant_of-self : goal.invariant_of-self
+invariant_of-self c =
     let b = c.args.self.now in
-    (omega (arith, length-set b.memory.now b.len c.args.first, b.within), (b.sized, (b.shallow, (subst (λ ws. Belongs reg_design ws (waiting_places b)) (sym (unwritten b.memory.now b.len c.args.first)) b.belongs, tt))))
+    record {
+      within = omega (arith, length-set b.memory.now b.len c.args.first, b.within);
+      sized = b.sized;
+      shallow = b.shallow;
+      belongs = subst (λ ws. Belongs reg_design ws (waiting_places b)) (sym (unwritten b.memory.now b.len c.args.first)) b.belongs;
+    }
 
-pub invariant-of-self-2 : goal.invariant-of-self-2
-invariant-of-self-2 c =
+pub invariant_of-self-2 : goal.invariant_of-self-2
+invariant_of-self-2 c =
     let b = c.args.self.now in
     let mem = b.memory.now in
-    (omega (arith, length-set mem b.len c.args.first, length-set (set mem b.len c.args.first) (b.len + 1) c.args.payload, c.requires.room), (c.requires.sized, (c.requires.shallow, (subst (λ ws. Belongs reg_design ws (take c.args.depth c.args.waiting)) (sym (wrote_two mem b.len c.args.first c.args.payload c.requires.room)) c.requires.belongs, tt))))
+    record {
+      within = omega (arith, length-set mem b.len c.args.first, length-set (set mem b.len c.args.first) (b.len + 1) c.args.payload, c.requires.room);
+      sized = c.requires.sized;
+      shallow = c.requires.shallow;
+      belongs = subst (λ ws. Belongs reg_design ws (take c.args.depth c.args.waiting)) (sym (wrote_two mem b.len c.args.first c.args.payload c.requires.room)) c.requires.belongs;
+    }
 
 pub returns : goal.returns
 returns c =

@@ -3,11 +3,11 @@ use Rattle.processor.proofs.Emissions.{one_word, two_words}
 use Rattle.reg.proofs.Growth.{issue_some, issue_fits, issue_shallow, issue_grows, issue_done, issue_wrote}
 use Rattle.reg.proofs.boards.calls.RegBoard.issue.Goals as goal
 
-pub push-one-requires : goal.push-one-requires
-push-one-requires c =
+pub push_one-requires : goal.push_one-requires
+push_one-requires c =
     let b = c.args.self.now in
-    let e = c.in-ok-emission.emission in
-    let judged = c.in-ok-emission.ensures in
+    let e = c.in_ok-emission.emission in
+    let judged = c.in_ok-emission.ensures in
     record {
       sized = length-set b.waiting e.below e.result ∙ b.sized;
       room = omega (arith, issue_fits b c.args.opcode c.args.first c.args.second e judged, c.if-emission-eq1.true);
@@ -18,20 +18,20 @@ push-one-requires c =
 pub returns-then-emission-eq1 : goal.returns-then-emission-eq1
 returns-then-emission-eq1 c =
     let b = c.args.self.now in
-    let e = c.in-ok-emission.emission in
-    let judged = c.in-ok-emission.ensures in
+    let e = c.in_ok-emission.emission in
+    let judged = c.in_ok-emission.ensures in
     let words = one_word e c.if-emission-eq1.true in
     record {
       fixed = refl;
-      outcome = issue_done b c.args.opcode c.args.first c.args.second e judged _ words c.push-one.new.self c.push-one.ensures;
-      memory = issue_wrote b c.args.opcode c.args.first c.args.second e judged _ words c.push-one.new.self c.push-one.ensures;
+      outcome = issue_done b c.args.opcode c.args.first c.args.second e judged _ words c.push_one.new.self c.push_one.ensures;
+      memory = issue_wrote b c.args.opcode c.args.first c.args.second e judged _ words c.push_one.new.self c.push_one.ensures;
     }
 
-pub push-two-requires : goal.push-two-requires
-push-two-requires c =
+pub push_two-requires : goal.push_two-requires
+push_two-requires c =
     let b = c.args.self.now in
-    let e = c.in-ok-emission.emission in
-    let judged = c.in-ok-emission.ensures in
+    let e = c.in_ok-emission.emission in
+    let judged = c.in_ok-emission.ensures in
     let some = issue_some b c.args.opcode c.args.first c.args.second e judged in
     record {
       sized = length-set b.waiting e.below e.result ∙ b.sized;
@@ -43,11 +43,11 @@ push-two-requires c =
 pub returns : goal.returns
 returns c =
     let b = c.args.self.now in
-    let e = c.in-ok-emission.emission in
-    let judged = c.in-ok-emission.ensures in
+    let e = c.in_ok-emission.emission in
+    let judged = c.in_ok-emission.ensures in
     let words = two_words e (issue_some b c.args.opcode c.args.first c.args.second e judged) c.if-emission-eq1.false in
     record {
       fixed = refl;
-      outcome = issue_done b c.args.opcode c.args.first c.args.second e judged _ words c.push-two.new.self c.push-two.ensures;
-      memory = issue_wrote b c.args.opcode c.args.first c.args.second e judged _ words c.push-two.new.self c.push-two.ensures;
+      outcome = issue_done b c.args.opcode c.args.first c.args.second e judged _ words c.push_two.new.self c.push_two.ensures;
+      memory = issue_wrote b c.args.opcode c.args.first c.args.second e judged _ words c.push_two.new.self c.push_two.ensures;
     }

@@ -6,11 +6,11 @@ use Rattle.reg.specs.Designs.{reg_design}
 use Rattle.reg.proofs.Growth.{store_grows, store_done, store_wrote}
 use Rattle.reg.proofs.boards.calls.RegBoard.store.Goals as goal
 
-pub push-two-requires : goal.push-two-requires
-push-two-requires c =
+pub push_two-requires : goal.push_two-requires
+push_two-requires c =
     let b = c.args.self.now in
-    let ws = c.in-ok-words.words in
-    let judged = c.in-ok-words.ensures in
+    let ws = c.in_ok-words.words in
+    let judged = c.in_ok-words.ensures in
     record {
       sized = b.sized;
       room = omega (arith, judged.allowed.room);
@@ -21,10 +21,10 @@ push-two-requires c =
 pub returns : goal.returns
 returns c =
     let b = c.args.self.now in
-    let ws = c.in-ok-words.words in
-    let judged = c.in-ok-words.ensures in
-    let after = c.push-two.new.self in
-    let grew = subst (λ us. Grew b us (take (b.depth - 1) b.waiting) after) (sym (pair_of ws (ap length judged.words_are))) c.push-two.ensures in
+    let ws = c.in_ok-words.words in
+    let judged = c.in_ok-words.ensures in
+    let after = c.push_two.new.self in
+    let grew = subst (λ us. Grew b us (take (b.depth - 1) b.waiting) after) (sym (pair_of ws (ap length judged.words_are))) c.push_two.ensures in
     record {
       fixed = refl;
       outcome = store_done b c.args.variable ws judged after grew;

@@ -39,13 +39,13 @@ fn operand_depth(first: u32) -> usize
 }
 
 // The depth of the last operand, as it is to be; 0 where there is none.
-fn asked_depth(res: usize, operands: usize) -> usize
-    requires { res < 256 }
-    ensures { result ≡ j_for res operands }
+fn asked_depth(depth: usize, operands: usize) -> usize
+    requires { depth < 256 }
+    ensures { result ≡ j_for depth operands }
 {
     match operands {
-        2 => res + 1,
-        1 => res,
+        2 => depth + 1,
+        1 => depth,
         _ => 0,
     }
 }

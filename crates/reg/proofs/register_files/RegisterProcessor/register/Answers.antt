@@ -1,6 +1,6 @@
 use Rattle.std.proofs.Common.{sym}
 use Rattle.reg.proofs.Banks.{address_read, data_read}
-use Rattle.reg.proofs.processor.RegisterProcessor.register.Goals as goal
+use Rattle.reg.proofs.register_files.RegisterProcessor.register.Goals as goal
 
 pub returns-then-letter-eq-ADDRESS : goal.returns-then-letter-eq-ADDRESS
 returns-then-letter-eq-ADDRESS c =

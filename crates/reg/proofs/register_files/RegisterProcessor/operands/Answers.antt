@@ -6,8 +6,8 @@ use Rattle.board.specs.Instructions.{operand_list}
 use Rattle.reg.specs.Designs.{registers_from}
 use Rattle.reg.proofs.Items.{operand_ahead, no_operand}
 use Rattle.reg.proofs.Banks.{registers_more}
-use Rattle.reg.proofs.processor.RegisterProcessor.operands.Goals as goal
-use Rattle.reg.proofs.processor.RegisterProcessor.operands.Goals.{in-Operand, in-default}
+use Rattle.reg.proofs.register_files.RegisterProcessor.operands.Goals as goal
+use Rattle.reg.proofs.register_files.RegisterProcessor.operands.Goals.{in-Operand, in_default}
 
 pub register-requires : goal.register-requires
 register-requires c =
@@ -36,18 +36,18 @@ loop-item-preserved c =
           let ahead = operand_ahead xs i x a c.loop-item-test.true c.item-item.is w.in-Operand.is in
           let more = ap count_of_operands ahead in (
             ap length w.values-is ∙ length-set vs n _ ∙ inv.0,
-            omega (arith, w.count_is, more, inv.1),
-            (λ k. take (w.count_is k) ((w.values-is ∙ ap (set vs n) w.register.ensures) k) ++ registers_from (from + w.count_is k) (operand_list rest) own)
+            omega (arith, w.count-is, more, inv.1),
+            (λ k. take (w.count-is k) ((w.values-is ∙ ap (set vs n) w.register.ensures) k) ++ registers_from (from + w.count-is k) (operand_list rest) own)
                 ∙ registers_more vs n from a (operand_list rest) own (omega (arith, more, inv.0, inv.1, c.requires.0))
                 ∙ ap (λ ys. take n vs ++ registers_from (from + n) (operand_list ys) own) (sym ahead)
                 ∙ inv.2,
           )
-      | in-default w ↦
-          let none = no_operand x rest w.in-default.not-Operand in
+      | in_default w ↦
+          let none = no_operand x rest w.in_default.not-Operand in
           let ahead = step (λ ys. ys) xs i x c.loop-item-test.true c.item-item.is in (
             ap length w.values-is ∙ inv.0,
-            omega (arith, w.count_is, ap count_of_operands ahead, none.0, inv.1),
-            (λ k. take (w.count_is k) (w.values-is k) ++ registers_from (from + w.count_is k) (sym none.1 k) own)
+            omega (arith, w.count-is, ap count_of_operands ahead, none.0, inv.1),
+            (λ k. take (w.count-is k) (w.values-is k) ++ registers_from (from + w.count-is k) (sym none.1 k) own)
                 ∙ ap (λ ys. take n vs ++ registers_from (from + n) (operand_list ys) own) (sym ahead)
                 ∙ inv.2,
           )

@@ -1,11 +1,11 @@
 use Rattle.std.proofs.Common.{sym}
 use Rattle.processor.proofs.Tables.{line_missing, line_found}
 use Rattle.reg.specs.Table.{all_opcodes, operation_for, reg_operations}
-use Rattle.reg.proofs.processor.RegisterProcessorProcessor.operation.Goals as goal
+use Rattle.reg.proofs.register_files.RegisterProcessorProcessor.operation.Goals as goal
 
-pub returns-in-default : goal.returns-in-default
+pub returns-in_default : goal.returns-in_default
 unfolding reg_operations
-returns-in-default c = line_missing operation_for c.args.opcode all_opcodes (sym c.in-default.ensures)
+returns-in_default c = line_missing operation_for c.args.opcode all_opcodes (sym c.in_default.ensures)
 
 pub returns : goal.returns
 unfolding reg_operations

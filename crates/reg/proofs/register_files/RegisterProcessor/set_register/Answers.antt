@@ -1,6 +1,6 @@
 use Rattle.std.proofs.Common.{sym}
 use Rattle.reg.proofs.Banks.{address_set, data_set}
-use Rattle.reg.proofs.processor.RegisterProcessor.set_register.Goals as goal
+use Rattle.reg.proofs.register_files.RegisterProcessor.set_register.Goals as goal
 
 pub returns-then-letter-eq-ADDRESS : goal.returns-then-letter-eq-ADDRESS
 returns-then-letter-eq-ADDRESS c =

@@ -2,7 +2,7 @@ use Rattle.std.proofs.Common.{◌≡◌, ◌+◌, ◌++◌, length, take, drop}
 use Rattle.pattern.specs.Items.{count_of_operands}
 use Rattle.board.specs.Instructions.{operand_list}
 use Rattle.reg.specs.Designs.{registers_from}
-use Rattle.reg.proofs.processor.RegisterProcessor.operands.Given as goal
+use Rattle.reg.proofs.register_files.RegisterProcessor.operands.Given as goal
 
 abbrev pub invariant-loop-item : goal.invariant-loop-item
 invariant-loop-item l =
