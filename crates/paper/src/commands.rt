@@ -189,7 +189,7 @@ fn setting(heap: Global, words: &mut Words) -> Result<(Vec<u32>, bool), Stop> {
     };
     let mut variables = vec![in heap; 0; count as usize]?;
     while let Some(text) = words.next_word() {
-        if text == b":" {
+        if text == b":".as_slice() {
             return Ok((variables, true));
         }
         assign(text, &mut variables)?;

@@ -12,6 +12,7 @@ use commands::Command;
 use desk::Desk;
 use std::alloc::Global;
 use std::io::{BufWriter, Read, Write};
+use std::process::ExitCode;
 use std::{env, fs, io};
 use stop::Stop;
 use text::Lines;
@@ -62,7 +63,7 @@ fn carry_out<W: Write>(heap: Global, bytes: &[u8], out: &mut W) -> (usize, Resul
     (lines.read, Ok(()))
 }
 
-fn main(rt: HostRuntime) -> anyhow::Result<()> {
+fn main(rt: HostRuntime) -> anyhow::Result<ExitCode> {
     let bytes = match paper(&rt) {
         Ok(bytes) => bytes,
         Err(error) => return Err(error.into()),
@@ -71,10 +72,10 @@ fn main(rt: HostRuntime) -> anyhow::Result<()> {
     let (line, end) = carry_out(rt.alloc(), bytes.as_slice(), &mut out);
     out.flush()?;
     match end {
-        Ok(()) => Ok(()),
+        Ok(()) => Ok(ExitCode::SUCCESS),
         Err(Stop::Expected(what)) => {
             eprintln!(rt; "paper: line {line}: expected {what}")?;
-            Err(anyhow!("the paper was not carried out to its end"))
+            Ok(ExitCode::FAILURE)
         }
         Err(Stop::Memory) => Err(anyhow!("out of memory")),
         Err(Stop::Output(error)) => Err(error.into()),

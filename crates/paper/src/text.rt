@@ -79,7 +79,7 @@ impl<'a> Lines<'a> {
         let text = self.rest;
         let mut passed = 0;
         while let Some(line) = self.next_line() {
-            if line == b"end" {
+            if line == b"end".as_slice() {
                 return Some(&text[0..passed]);
             }
             passed = text.len() - self.rest.len();
