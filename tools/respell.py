@@ -46,9 +46,9 @@ def declared():
         for line in text.split("\n"):
             if line and (not line.startswith(" ") or re.match(r" +(pub )?(data|record) ", line)):
                 inside = bool(re.match(r" *(pub )?(data|record) ", line))
-            if " = " in line:
-                inside = False
             m = SIGNATURE.match(line)
+            if " = " in line and not m:
+                inside = False
             if not m or line.lstrip().startswith("--"):
                 continue
             indented, marks, name = m.groups()
