@@ -1,23 +1,25 @@
 // Words and the fourteen operators of expressions.
 #![tactic(auto)]
 
-ghost use Rattle.std.specs.Prelude.{◌≡◌, MatchOption, ◌≢◌};
+ghost use Rattle.std.specs.Prelude.{◌≡◌, None, Some, MatchResult, ◌≢◌};
 ghost use Rattle.operators.specs.Operators.{unary, binary, operator_number, operator_arity, operator_name, operator_of};
 ghost use Rattle.operators.specs.declared.Operator.{Operator};
+
+use std::str::FromStr;
 
 pub mod laws;
 #[cfg(test)]
 mod tests;
 
 // The operators with one part.
-#[derive(Clone, Copy, Debug, PartialEq)]
+#[derive(Clone, Copy, Debug, PartialEq, Eq)]
 pub enum Unary {
     Neg,
     Not,
 }
 
 // The operators with two parts.
-#[derive(Clone, Copy, Debug, PartialEq)]
+#[derive(Clone, Copy, Debug, PartialEq, Eq)]
 pub enum Binary {
     Add,
     Sub,
@@ -32,13 +34,17 @@ pub enum Binary {
 }
 
 // A leaf, or what joins parts.
-#[derive(Clone, Copy, Debug, PartialEq)]
+#[derive(Clone, Copy, Debug, PartialEq, Eq)]
 pub enum Operator {
     Cnst,
     Var,
     One(Unary),
     Two(Binary),
 }
+
+// A number or a name that no operator has.
+#[derive(Clone, Copy, Debug, PartialEq, Eq)]
+pub struct UnknownOperator;
 
 impl Unary {
     pub fn apply(self, a: u32) -> u32
@@ -71,27 +77,6 @@ impl Binary {
 }
 
 impl Operator {
-    pub fn number(self) -> u32
-        ensures { result ≡ operator_number self }
-    {
-        match self {
-            Operator::Cnst => 1,
-            Operator::Var => 2,
-            Operator::One(Unary::Neg) => 3,
-            Operator::One(Unary::Not) => 4,
-            Operator::Two(Binary::Add) => 5,
-            Operator::Two(Binary::Sub) => 6,
-            Operator::Two(Binary::Mul) => 7,
-            Operator::Two(Binary::And) => 8,
-            Operator::Two(Binary::Or) => 9,
-            Operator::Two(Binary::Xor) => 10,
-            Operator::Two(Binary::Shl) => 11,
-            Operator::Two(Binary::Shr) => 12,
-            Operator::Two(Binary::Sar) => 13,
-            Operator::Two(Binary::Lt) => 14,
-        }
-    }
-
     pub fn arity(self) -> usize
         ensures { result ≡ operator_arity self }
     {
@@ -122,11 +107,40 @@ impl Operator {
             Operator::Two(Binary::Lt) => "LT",
         }
     }
+}
 
-    pub fn from_number(number: u32) -> Option<Operator>
-        ensures { result ≡ operator_of number }
-    {
-        Some(match number {
+// An operator's number.
+impl From<Operator> for u32 {
+    ghost from_gives = { λ o n. n ≡ operator_number o };
+
+    fn from(operator: Operator) -> u32 {
+        match operator {
+            Operator::Cnst => 1,
+            Operator::Var => 2,
+            Operator::One(Unary::Neg) => 3,
+            Operator::One(Unary::Not) => 4,
+            Operator::Two(Binary::Add) => 5,
+            Operator::Two(Binary::Sub) => 6,
+            Operator::Two(Binary::Mul) => 7,
+            Operator::Two(Binary::And) => 8,
+            Operator::Two(Binary::Or) => 9,
+            Operator::Two(Binary::Xor) => 10,
+            Operator::Two(Binary::Shl) => 11,
+            Operator::Two(Binary::Shr) => 12,
+            Operator::Two(Binary::Sar) => 13,
+            Operator::Two(Binary::Lt) => 14,
+        }
+    }
+}
+
+// The operator of a number.
+impl TryFrom<u32> for Operator {
+    type Error = UnknownOperator;
+
+    ghost try_from_gives = { λ n r. MatchResult r (λ o. operator_of n ≡ Some o) (λ _. operator_of n ≡ None) };
+
+    fn try_from(number: u32) -> Result<Operator, UnknownOperator> {
+        Ok(match number {
             1 => Operator::Cnst,
             2 => Operator::Var,
             3 => Operator::One(Unary::Neg),
@@ -141,14 +155,19 @@ impl Operator {
             12 => Operator::Two(Binary::Shr),
             13 => Operator::Two(Binary::Sar),
             14 => Operator::Two(Binary::Lt),
-            _ => return None,
+            _ => return Err(UnknownOperator),
         })
     }
+}
 
-    pub fn from_name(name: &str) -> Option<Operator>
-        ensures { MatchOption result ((o : Operator) → operator_name o ≢ name.now) (λ o. operator_name o ≡ name.now) }
-    {
-        Some(match name {
+// The operator of a name.
+impl FromStr for Operator {
+    type Err = UnknownOperator;
+
+    ghost from_str_gives = { λ name r. MatchResult r (λ o. operator_name o ≡ name) (λ _. (o : Operator) → operator_name o ≢ name) };
+
+    fn from_str(name: &str) -> Result<Operator, UnknownOperator> {
+        Ok(match name {
             "CNST" => Operator::Cnst,
             "VAR" => Operator::Var,
             "NEG" => Operator::One(Unary::Neg),
@@ -163,7 +182,7 @@ impl Operator {
             "SHR" => Operator::Two(Binary::Shr),
             "SAR" => Operator::Two(Binary::Sar),
             "LT" => Operator::Two(Binary::Lt),
-            _ => return None,
+            _ => return Err(UnknownOperator),
         })
     }
 }

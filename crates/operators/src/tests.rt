@@ -1,5 +1,5 @@
 // The edges of each operator.
-use crate::{Binary, Operator, Unary};
+use crate::{Binary, Operator, Unary, UnknownOperator};
 
 const TOP: u32 = 0x8000_0000;
 
@@ -65,12 +65,12 @@ fn shifts(rt: HostRuntime) {
 #[test]
 fn numbers_and_names(rt: HostRuntime) {
     for number in 0..16 {
-        if let Some(operator) = Operator::from_number(number) {
-            assert_eq!(rt; operator.number(), number);
-            assert!(rt; Operator::from_name(operator.name()) == Some(operator));
+        if let Ok(operator) = Operator::try_from(number) {
+            assert_eq!(rt; u32::from(operator), number);
+            assert!(rt; operator.name().parse() == Ok(operator));
         } else {
             assert!(rt; number == 0 || number == 15);
         }
     }
-    assert!(rt; Operator::from_name("add").is_none());
+    assert_eq!(rt; "add".parse::<Operator>(), Err(UnknownOperator));
 }

@@ -100,7 +100,7 @@ pub struct TooLong;
 impl<T: Entry, const N: usize> TryFrom<&[T]> for Row<T, N> {
     type Error = TooLong;
 
-    ghost try_from_gives = { λ s r. MatchResult r (λ row. row ≡ s.now) (λ _. N < length s.now) };
+    ghost try_from_gives = { λ s r. MatchResult r (λ row. (row ≡ s.now) × (length s.now ≤ N)) (λ _. N < length s.now) };
 
     fn try_from(entries: &[T]) -> Result<Row<T, N>, TooLong> {
         let len = entries.len();

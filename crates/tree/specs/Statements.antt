@@ -26,9 +26,13 @@ pub data Faulty (n : ℕ) (x : Node) : Type 0 where
   lacks_part : n < parts_taken x → Faulty n x
   has_payload : 0 < parts_taken x → (x.payload ≢ 0) → Faulty n x
 
+-- what is read past a list of nodes
+abbrev pub node_past : Node
+node_past = record { operator = 0; payload = 0 }
+
 -- node i of the list, counted from 0
 abbrev pub node_at : List Node → ℕ → Node
-node_at xs i = slice_index_or xs i (record { operator = 0; payload = 0 })
+node_at xs i = slice_index_or xs i node_past
 
 abbrev pub FaultyAt : List Node → ℕ → Type 0
 FaultyAt xs i = Faulty (standing 0 (take i xs)) (node_at xs i)

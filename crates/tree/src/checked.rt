@@ -1,17 +1,15 @@
 // Statements that keep the rules.
 ghost use Rattle.tree.specs.Statements.{StatementGranted};
-ghost use Rattle.std.specs.Prelude.{◌≤◌, take};
 
 use crate::nodes::Node;
+use rows::Row;
 
 mod check;
 
-// A statement that no condition refuses, with its nodes at the front of the array.
+// A statement that no condition refuses.
 #[derive(Clone, Copy)]
 pub struct CheckedStatement {
     pub target: u32,
-    pub nodes: [Node; 256],
-    pub len: usize,
-    ghost within: { len ≤ 256 },
-    ghost granted: { StatementGranted target (take len nodes) },
+    pub nodes: Row<Node, 256>,
+    ghost granted: { StatementGranted target nodes },
 }

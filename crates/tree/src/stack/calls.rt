@@ -1,6 +1,6 @@
 // What can be done with a stack.
-ghost use Rattle.tree.specs.Stacks.{held, beyond, Pushed, Popped};
-ghost use Rattle.std.specs.Prelude.{◌≡◌, [], MatchOption, MatchResult};
+ghost use Rattle.tree.specs.Stacks.{held, beyond, capacity, Pushed, Popped};
+ghost use Rattle.std.specs.Prelude.{◌≡◌, ◌<◌, [], length, MatchOption, MatchResult};
 
 use super::Stack;
 
@@ -15,7 +15,8 @@ impl<'a, T: Copy> Stack<'a, T> {
 
     // One entry more, or that entry back where no memory is left.
     pub fn push(&mut self, entry: T) -> Result<(), T>
-        ensures { MatchResult result (λ _. Pushed self.old entry self.new) (λ e. (e ≡ entry) × (beyond self.old ≡ []) × (self.new ≡ self.old)) }
+        ensures fits { length (held self.old) < capacity self.old → Pushed self.old entry self.new }
+        ensures answer { MatchResult result (λ _. Pushed self.old entry self.new) (λ e. (e ≡ entry) × (beyond self.old ≡ []) × (self.new ≡ self.old)) }
     {
         if self.len >= self.memory.len() {
             return Err(entry);

@@ -6,4 +6,4 @@ use Rattle.tree.proofs.evaluation.assign.Goals as goal
 pub bounds-setting-statement : goal.bounds-setting-statement
 bounds-setting-statement c =
     let s = c.args.statement.now in
-    omega (arith, (tree_of s.target (nodes_of s) s.granted).1.target_within, c.requires)
+    omega (arith, (tree_of s.target (nodes_of s) s.granted).1.target_within)

@@ -21,8 +21,7 @@ loop-i-preserved c =
     let before = c.loop-i.invariant.0 in
     let same = c.in-Ok.ensures in (
       granted_more ss i _ h before c.in-Ok.checked same,
-      c.assign.auto.setting ∙ c.loop-i.invariant.1,
-      evaluated_more ss i _ h before c.in-Ok.checked same c.args.variables.now c.assign.new.setting c.loop-i.setting c.loop-i.invariant.2 c.assign.ensures,
+      evaluated_more ss i _ h before c.in-Ok.checked same c.args.variables.now c.assign.new.setting c.loop-i.setting c.loop-i.invariant.1 c.assign.ensures,
     )
 
 pub returns : goal.returns
@@ -32,5 +31,5 @@ returns c =
       counted = c.if-variables-ne-VARIABLES.false;
       assignments = map assignment_of c.args.statements.now;
       says = say_all c.args.statements.now (subst (AllByRecursion Granted) all c.loop-i.invariant.0);
-      leaves = c.copy_from_slice-2.ensures.after ∙ c.loop-i.invariant.2 ∙ ap (λ l. evaluated (map assignment_of l) c.args.variables.now) all;
+      leaves = c.copy_from_slice-2.ensures.after ∙ c.loop-i.invariant.1 ∙ ap (λ l. evaluated (map assignment_of l) c.args.variables.now) all;
     }

@@ -1,5 +1,6 @@
-use Rattle.std.proofs.Common.{[], map, length, take, ap, ◌∙◌, arith}
+use Rattle.std.proofs.Common.{rules, ◌≡◌, [], map, length, take, ap, ◌∙◌, arith}
 use Rattle.std.proofs.lemmas.List.{take_all, length-take-le}
+use Rattle.tree.specs.Stacks.{held}
 use Rattle.tree.specs.Trees.{value_of}
 use Rattle.tree.specs.Statements.{node_at}
 use Rattle.tree.specs.Values.{top, values_after}
@@ -25,7 +26,8 @@ loop-node-preserved c =
 
 pub returns : goal.returns
 returns c t e =
+    let newest : c.unwrap_or.result ≡ top (held c.loop-node.stack) = search rules in
     let σ = c.args.setting.now in
     let xs = c.args.nodes.now in
-    c.operand.ensures.value ∙ ap top c.loop-node.invariant.0
+    newest ∙ ap top c.loop-node.invariant.0
     ∙ ap (λ l. top (map (value_of σ) (forest [] l))) (take_all c.loop-node.node-index xs c.loop-node-test.false) ∙ value_whole σ t xs e
