@@ -1,6 +1,6 @@
 -- Items one by one.
-use Rattle.std.proofs.Common.{◌≡◌, ℕ, zero, suc, ◌+◌, ◌-◌, ◌<◌, ◌≤◌, List, [], ◌∷◌, ◌++◌, length, get_or, take, drop, sym, refl, ap, ◌∙◌, arith}
-use Rattle.std.proofs.lemmas.List.{at_drop_more, take_more}
+use Rattle.std.proofs.Common.{◌≡◌, ℕ, zero, suc, ◌+◌, ◌-◌, ◌<◌, ◌≤◌, List, [], ◌∷◌, ◌++◌, length, get_or, drop, sym, refl, ap, ◌∙◌, arith}
+use Rattle.std.proofs.lemmas.List.{at_drop_more}
 use Rattle.pattern.specs.declared.items.Item.{Item}
 use Rattle.pattern.specs.declared.items.Item.TheVariants.{Operand, Unary, Binary, Constant, Variable}
 use Rattle.pattern.specs.Items.{item_parts, whole_from, operands_in, leaves_in, count_of_operands, count_of_leaves}
@@ -34,28 +34,11 @@ leaves_few (Binary o) = omega arith
 leaves_few (Constant i) = omega arith
 leaves_few Variable = omega arith
 
--- the items before the last of a front
-module _ (xs : List Item) (i : ℕ) (x : Item) (some : 0 < i) (within : i ≤ length xs) (is : x ≡ get_or xs (i - 1) x) where
-  back : i - 1 + 1 ≡ i
-  back = omega arith
+-- one item more at the end
+pub operands_push : (xs : List Item) (x : Item) → count_of_operands (xs ++ x ∷ []) ≡ count_of_operands xs + operands_in x
+operands_push [] x = omega arith
+operands_push (y ∷ ys) x = omega (arith, operands_push ys x)
 
-  front_last : take i xs ≡ take (i - 1) xs ++ x ∷ []
-  front_last =
-      ap (λ k. take k xs) (sym back) ∙ take_more xs (i - 1) x (omega arith) ∙ ap (λ y. take (i - 1) xs ++ y ∷ []) (sym is)
-
-  pub operands_last : count_of_operands (take i xs) ≡ count_of_operands (take (i - 1) xs) + operands_in x
-  operands_last = ap count_of_operands front_last ∙ operands_push (take (i - 1) xs)
-    where
-      operands_push : (ys : List Item) → count_of_operands (ys ++ x ∷ []) ≡ count_of_operands ys + operands_in x
-      operands_push [] = omega arith
-      operands_push (y ∷ ys) = omega (arith, operands_push ys)
-
-  pub leaves_last : count_of_leaves (take i xs) ≡ count_of_leaves (take (i - 1) xs) + leaves_in x
-  leaves_last = ap count_of_leaves front_last ∙ leaves_push (take (i - 1) xs)
-    where
-      leaves_push : (ys : List Item) → count_of_leaves (ys ++ x ∷ []) ≡ count_of_leaves ys + leaves_in x
-      leaves_push [] = omega arith
-      leaves_push (y ∷ ys) = omega (arith, leaves_push ys)
-
-  pub rest_last : {Y : Type 0} (F : List Item → Y) → F (drop (i - 1) xs) ≡ F (x ∷ drop i xs)
-  rest_last F = step F xs (i - 1) x (omega arith) is ∙ ap (λ k. F (x ∷ drop k xs)) back
+pub leaves_push : (xs : List Item) (x : Item) → count_of_leaves (xs ++ x ∷ []) ≡ count_of_leaves xs + leaves_in x
+leaves_push [] x = omega arith
+leaves_push (y ∷ ys) x = omega (arith, leaves_push ys x)

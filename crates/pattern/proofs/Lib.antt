@@ -1,6 +1,6 @@
-pub mod Fronts
 pub mod ItemSteps
 pub mod Same
 pub mod Shapes
 pub mod ItemValues
-pub mod Codes
+pub mod Comparisons
+pub mod Plain

@@ -5,4 +5,3 @@ pub mod Items
 pub mod Patterns
 pub mod Shapes
 pub mod ItemValues
-pub mod Comparisons

@@ -1,12 +1,12 @@
 // The numbers of a rule.
 ghost use Rattle.std.specs.Prelude.{◌≡◌, ◌≤◌, MatchOption};
 
-const SIZE_LIMIT: u32 = 99;
+pub const SIZE_LIMIT: u32 = 99;
 
-const CYCLES_LIMIT: u32 = 999;
+pub const CYCLES_LIMIT: u32 = 999;
 
 // What a rule takes: bytes, and cycles.
-#[derive(Clone, Copy, PartialEq)]
+#[derive(Clone, Copy, Debug, PartialEq, Eq)]
 pub struct Figures {
     pub size: u32,
     pub cycles: u32,

@@ -1,16 +1,14 @@
 // The items of a pattern.
-ghost use Rattle.std.specs.Prelude.{◌≡◌, ◌==◌, Decides};
-ghost use Rattle.std.specs.Ordering.{on};
-ghost use Rattle.std.specs.Cmp.Lexicographic.{pointwise};
-ghost use Rattle.std.specs.Cmp.Rules.{comparing};
-ghost use Rattle.std.proofs.Common.{rules};
-ghost use Rattle.pattern.specs.Comparisons.{item_code};
+ghost use Rattle.std.specs.Prelude.{◌≡◌};
+ghost use Rattle.pattern.specs.Items.{item_parts, operands_in, leaves_in};
+ghost use Rattle.pattern.specs.declared.items.Item.TheVariants.{Variable};
 
 use crate::intervals::Interval;
 use operators::{Binary, Unary};
+use rows::Entry;
 
 // An operand by its number, an operator, or a leaf: a constant of a range, or any variable.
-#[derive(Clone, Copy)]
+#[derive(Clone, Copy, Debug, PartialEq, Eq)]
 pub enum Item {
     Operand(u8),
     Unary(Unary),
@@ -19,24 +17,43 @@ pub enum Item {
     Variable,
 }
 
-impl PartialEq for Item {
-    ghost eq = { on item_code (pointwise ◌==◌) };
+impl Entry for Item {
+    ghost blank = { Variable };
 
-    ghost laws = { Prim.search (comparing, rules) };
+    fn blank() -> Item {
+        Item::Variable
+    }
+}
 
-    fn eq(&self, other: &Item) -> bool
-        ensures value { result ≡ pointwise ◌==◌ (item_code self.now) (item_code other.now) }
-        ensures same { Decides result (self.now ≡ other.now) }
+impl Item {
+    // How many parts it has.
+    pub fn arity(self) -> usize
+        ensures { result ≡ item_parts self }
     {
-        match *self {
-            Item::Operand(a) => matches!(*other, Item::Operand(b) if a == b),
-            Item::Unary(a) => matches!(*other, Item::Unary(b) if a == b),
-            Item::Binary(a) => matches!(*other, Item::Binary(b) if a == b),
-            Item::Constant(a) => match *other {
-                Item::Constant(b) => a == b,
-                _ => false,
-            },
-            Item::Variable => matches!(*other, Item::Variable),
+        match self {
+            Item::Operand(_) | Item::Constant(_) | Item::Variable => 0,
+            Item::Unary(_) => 1,
+            Item::Binary(_) => 2,
+        }
+    }
+
+    // Whether it is an operand, as a count.
+    pub fn operands(self) -> usize
+        ensures { result ≡ operands_in self }
+    {
+        match self {
+            Item::Operand(_) => 1,
+            Item::Unary(_) | Item::Binary(_) | Item::Constant(_) | Item::Variable => 0,
+        }
+    }
+
+    // Whether it is a leaf, as a count.
+    pub fn leaves(self) -> usize
+        ensures { result ≡ leaves_in self }
+    {
+        match self {
+            Item::Constant(_) | Item::Variable => 1,
+            Item::Operand(_) | Item::Unary(_) | Item::Binary(_) => 0,
         }
     }
 }

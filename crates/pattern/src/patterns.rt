@@ -1,25 +1,30 @@
 // Patterns.
-ghost use Rattle.std.specs.Prelude.{◌≡◌, ◌-◌, ◌≤◌, true, length, take, drop, replicate};
+ghost use Rattle.std.specs.Prelude.{◌≡◌, true};
 ghost use Rattle.pattern.specs.Items.{pattern_items, count_of_operands, count_of_leaves};
-ghost use Rattle.pattern.specs.declared.items.Item.TheVariants.{Variable};
 
 use crate::items::Item;
+use rows::Row;
 
 mod calls;
 pub(crate) mod counts;
 
-// 1 to 7 items in reading order, an operator before its parts, at the front of the array; the rest of it is `Variable`.
-// With them stand the numbers of their operands and of their leaves.
-#[derive(Clone, Copy)]
+pub const ITEM_LIMIT: usize = 7;
+
+pub const OPERAND_LIMIT: usize = 2;
+
+pub const LEAF_LIMIT: usize = 2;
+
+// 1 to 7 items in reading order, an operator before its parts, with the numbers of their operands and of their leaves.
+#[derive(Clone, Copy, PartialEq)]
 pub struct Pattern {
-    pub items: [Item; 7],
-    pub len: usize,
+    pub items: Row<Item, 7>,
     pub operands: usize,
     pub leaves: usize,
-    ghost sized: { length items ≡ 7 },
-    ghost within: { len ≤ 7 },
-    ghost formed: { pattern_items (take len items) ≡ true },
-    ghost counted: { operands ≡ count_of_operands (take len items) },
-    ghost tallied: { leaves ≡ count_of_leaves (take len items) },
-    ghost blank: { drop len items ≡ replicate (7 - len) Variable },
+    ghost formed: { pattern_items items ≡ true },
+    ghost counted: { operands ≡ count_of_operands items },
+    ghost tallied: { leaves ≡ count_of_leaves items },
 }
+
+// Items that are no pattern within the limits.
+#[derive(Clone, Copy, Debug, PartialEq, Eq)]
+pub struct MalformedPattern;

@@ -1,21 +1,27 @@
 // Where a value lies: one capital letter.
-ghost use Rattle.std.specs.Prelude.{◌≡◌, ◌≤◌, MatchOption};
+ghost use Rattle.std.specs.Prelude.{◌≡◌, ◌≤◌, MatchResult};
 
-#[derive(Clone, Copy, PartialEq)]
+#[derive(Clone, Copy, Debug, PartialEq, Eq)]
 pub struct Place {
     pub letter: u8,
     ghost from: { 65 ≤ letter },
     ghost to: { letter ≤ 90 },
 }
 
-impl Place {
-    // The place of a capital letter, by its ASCII code.
-    pub fn new(byte: u8) -> Option<Place>
-        ensures { MatchOption result ((65 ≤ byte) × (byte ≤ 90) → ⊥) (λ p. p.letter ≡ byte) }
-    {
+// A byte that is no capital letter.
+#[derive(Clone, Copy, Debug, PartialEq, Eq)]
+pub struct NotCapital;
+
+// The place of a capital letter, by its ASCII code.
+impl TryFrom<u8> for Place {
+    type Error = NotCapital;
+
+    ghost try_from_gives = { λ byte r. MatchResult r (λ p. p.letter ≡ byte) (λ _. (65 ≤ byte) × (byte ≤ 90) → ⊥) };
+
+    fn try_from(byte: u8) -> Result<Place, NotCapital> {
         match byte {
-            b'A'..=b'Z' => Some(Place { letter: byte }),
-            _ => None,
+            b'A'..=b'Z' => Ok(Place { letter: byte }),
+            _ => Err(NotCapital),
         }
     }
 }

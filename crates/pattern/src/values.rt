@@ -1,42 +1,15 @@
 // The value of a pattern.
-ghost use Rattle.std.specs.Prelude.{◌≡◌, ◌<◌, ◌≤◌, ◌∷◌, length, slice_index};
+ghost use Rattle.std.specs.Prelude.{◌≡◌, ◌<◌, ◌≤◌, length};
 ghost use Rattle.tree.specs.Stacks.{held, capacity};
-ghost use Rattle.tree.specs.Values.{top, under};
+ghost use Rattle.tree.specs.Values.{top};
 ghost use Rattle.pattern.specs.ItemValues.{item_values, values_from};
 ghost use Rattle.pattern.specs.Patterns.{items_of};
 ghost use Rattle.pattern.specs.Shapes.{Shape, reading, shape_value};
 
 use crate::items::Item;
-use crate::patterns::Pattern;
-use crate::patterns::counts::{counts, leaves_at, operands_at};
+use crate::patterns::counts::counts;
+use crate::patterns::{ITEM_LIMIT, Pattern};
 use tree::stack::Stack;
-
-const ITEM_LIMIT: usize = 7;
-
-// Takes the newest value, 0 where there is none.
-fn taken(stack: &mut Stack<u32>) -> u32
-    ensures value { result ≡ top (held stack.old) }
-    ensures entries { held stack.new ≡ under (held stack.old) }
-    ensures size { capacity stack.new ≡ capacity stack.old }
-{
-    stack.pop().unwrap_or(0)
-}
-
-// Adds a value.
-fn put(stack: &mut Stack<u32>, value: u32)
-    requires { length (held stack.old) < capacity stack.old }
-    ensures entries { held stack.new ≡ value ∷ held stack.old }
-    ensures size { capacity stack.new ≡ capacity stack.old }
-{
-    let _ = stack.push(value);
-}
-
-// The word at an index, 0 past the end.
-fn word(words: &[u32], index: usize) -> u32
-    ensures { result ≡ slice_index words.now index }
-{
-    if index < words.len() { words[index] } else { 0 }
-}
 
 // The values of the item's parts leave the stack, and its own joins.
 fn reduce(item: Item, operand: u32, payload: u32, setting: &[u32], stack: &mut Stack<u32>)
@@ -47,15 +20,15 @@ fn reduce(item: Item, operand: u32, payload: u32, setting: &[u32], stack: &mut S
     let value = match item {
         Item::Operand(_) => operand,
         Item::Constant(_) => payload,
-        Item::Variable => word(setting, payload as usize),
-        Item::Unary(operator) => operator.apply(taken(stack)),
+        Item::Variable => setting.get(payload as usize).copied().unwrap_or(0),
+        Item::Unary(operator) => operator.apply(stack.pop().unwrap_or(0)),
         Item::Binary(operator) => {
-            let a = taken(stack);
-            let b = taken(stack);
+            let a = stack.pop().unwrap_or(0);
+            let b = stack.pop().unwrap_or(0);
             operator.apply(a, b)
         }
     };
-    put(stack, value);
+    let _ = stack.push(value);
 }
 
 // The value of the one pattern that the items are.
@@ -66,15 +39,14 @@ fn value_of(items: &[Item], operands: &[u32], payloads: &[u32], setting: &[u32])
     let mut memory = [0; ITEM_LIMIT];
     let mut stack = Stack::new(&mut memory);
     let (mut operand, mut leaf) = counts(items);
-    for i in (0..items.len()).rev() {
-        let item = items[i];
-        operand -= operands_at(item);
-        leaf -= leaves_at(item);
-        let value = word(operands, operand);
-        let payload = word(payloads, leaf);
-        reduce(item, value, payload, setting, &mut stack);
+    for item in items.iter().rev() {
+        operand -= item.operands();
+        leaf -= item.leaves();
+        let value = operands.get(operand).copied().unwrap_or(0);
+        let payload = payloads.get(leaf).copied().unwrap_or(0);
+        reduce(*item, value, payload, setting, &mut stack);
     }
-    taken(&mut stack)
+    stack.pop().unwrap_or(0)
 }
 
 impl Pattern {
@@ -83,6 +55,6 @@ impl Pattern {
     pub fn value(&self, operands: &[u32], payloads: &[u32], setting: &[u32]) -> u32
         ensures { (p : Shape) → reading p ≡ items_of self.now → result ≡ shape_value p operands.now payloads.now setting.now }
     {
-        value_of(&self.items[0..self.len], operands, payloads, setting)
+        value_of(self.items.as_slice(), operands, payloads, setting)
     }
 }

@@ -3,6 +3,8 @@
 
 ghost use Rattle.std.specs.Prelude.{◌≡◌, ◌<◌, ◌≤◌, [], ◌∷◌, ◌++◌, length, take, MatchOption, MatchResult};
 ghost use Rattle.std.specs.Cmp.Lexicographic.{pointwise};
+ghost use Rattle.std.specs.Cmp.Rules.{comparing};
+ghost use Rattle.std.proofs.Common.{rules};
 
 use std::alloc::AllocError;
 use std::marker::Model;
@@ -90,6 +92,16 @@ impl<T: Entry, const N: usize> Row<T, N> {
         let last = self.entries[self.len];
         self.entries[self.len] = T::blank();
         Some(last)
+    }
+}
+
+impl<T: Entry + PartialEq, const N: usize> PartialEq for Row<T, N> {
+    ghost eq = { pointwise T.eq };
+
+    ghost laws = { Prim.search (comparing, rules) };
+
+    fn eq(&self, other: &Row<T, N>) -> bool {
+        self.as_slice() == other.as_slice()
     }
 }
 

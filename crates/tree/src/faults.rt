@@ -1,9 +1,10 @@
 // Why a statement or an evaluation is refused.
-ghost use Rattle.std.specs.Prelude.{◌≡◌};
 ghost use Rattle.tree.specs.Faults.{statement_number, statement_place, evaluation_number, evaluation_place};
 
+use fault::Fault;
+
 // What is wrong with a statement.
-#[derive(Clone, Copy, Debug, PartialEq)]
+#[derive(Clone, Copy, Debug, PartialEq, Eq)]
 pub enum StatementFault {
     // No tree stands there; holds the node at fault, or the node count.
     Malformed(usize),
@@ -13,10 +14,12 @@ pub enum StatementFault {
     VariableOver(usize),
 }
 
-impl StatementFault {
-    pub fn number(self) -> u32
-        ensures { result ≡ statement_number self }
-    {
+impl Fault for StatementFault {
+    ghost number_of = { statement_number };
+
+    ghost place_of = { statement_place };
+
+    fn number(self) -> u32 {
         match self {
             StatementFault::Malformed(_) => 11,
             StatementFault::TooLong => 12,
@@ -24,9 +27,7 @@ impl StatementFault {
         }
     }
 
-    pub fn place(self) -> usize
-        ensures { result ≡ statement_place self }
-    {
+    fn place(self) -> usize {
         match self {
             StatementFault::Malformed(place) => place,
             StatementFault::TooLong => 256,
@@ -36,7 +37,7 @@ impl StatementFault {
 }
 
 // Why an evaluation is refused.
-#[derive(Clone, Copy, Debug, PartialEq)]
+#[derive(Clone, Copy, Debug, PartialEq, Eq)]
 pub enum EvaluationFault {
     // Not exactly 64 variables; holds how many.
     WrongCount(usize),
@@ -47,19 +48,19 @@ pub enum EvaluationFault {
     },
 }
 
-impl EvaluationFault {
-    pub fn number(self) -> u32
-        ensures { result ≡ evaluation_number self }
-    {
+impl Fault for EvaluationFault {
+    ghost number_of = { evaluation_number };
+
+    ghost place_of = { evaluation_place };
+
+    fn number(self) -> u32 {
         match self {
             EvaluationFault::WrongCount(_) => 34,
             EvaluationFault::Refused { fault, .. } => fault.number(),
         }
     }
 
-    pub fn place(self) -> usize
-        ensures { result ≡ evaluation_place self }
-    {
+    fn place(self) -> usize {
         match self {
             EvaluationFault::WrongCount(count) => count,
             EvaluationFault::Refused { fault, .. } => fault.place(),

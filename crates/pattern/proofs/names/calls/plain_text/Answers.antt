@@ -1,21 +1,11 @@
-use Rattle.std.proofs.Common.{◌+◌, ◌&&◌, drop, sym, ap, ◌∙◌}
-use Rattle.std.proofs.lemmas.List.{at_drop_more, at_drop_all}
-use Rattle.pattern.specs.Names.{all_plain}
+use Rattle.std.proofs.Common.{◌≡◌, ◌||◌, true, false, rules}
+use Rattle.std.proofs.lemmas.Iterator.{cases_from_all, YieldsList-from_slice}
+use borrow.Author.Tests.{tests}
+use Rattle.pattern.specs.Names.{is_lower, is_digit}
+use Rattle.pattern.proofs.Plain.{all_plain_by}
 use Rattle.pattern.proofs.names.calls.plain_text.Goals as goal
 
-pub returns-then-not-plain : goal.returns-then-not-plain
-returns-then-not-plain c =
-    let xs = c.args.text.now in
-    let i = c.loop-byte.byte-index in
-    ap (λ b. b && all_plain (drop (i + 1) xs)) c.if-not-plain.ensures
-    ∙ sym (c.loop-byte.invariant ∙ at_drop_more all_plain xs i 0 c.loop-byte-test.true)
-
-pub loop-byte-preserved : goal.loop-byte-preserved
-loop-byte-preserved c =
-    let xs = c.args.text.now in
-    let i = c.loop-byte.byte-index in
-    c.loop-byte.invariant ∙ at_drop_more all_plain xs i 0 c.loop-byte-test.true
-    ∙ sym (ap (λ b. b && all_plain (drop (i + 1) xs)) c.if-not-plain.ensures)
-
 pub returns : goal.returns
-returns c = sym (c.loop-byte.invariant ∙ at_drop_all all_plain c.args.text.now c.loop-byte.byte-index c.loop-byte-test.false)
+returns c =
+    all_plain_by c.args.text.now c.all.result
+    (cases_from_all _ _ _ (λ b. (is_lower b || is_digit b) ≡ true) (λ b. (is_lower b || is_digit b) ≡ false) c.all.ensures.ran (YieldsList-from_slice c.args.text.now cc) (λ b q k. search (rules, tests)) (λ b q k. search (rules, tests)))

@@ -11,7 +11,7 @@ loop-item-preserved c =
     let x = c.item-item.result in
     let n = c.loop-item.wanted in
     let few = parts_few x in
-    let more : item_parts x + (n - 1) ≡ n - 1 + c.parts.result = omega arith in (
+    let more : item_parts x + (n - 1) ≡ n - 1 + c.arity.result = omega arith in (
       c.loop-item.invariant.0 ∙ step (whole_from n) xs i x c.loop-item-test.true c.item-item.is
           ∙ whole_step n x (drop (i + 1) xs) c.if-wanted-eq0.false ∙ ap (λ k. whole_from k (drop (i + 1) xs)) more,
       omega arith,

@@ -1,6 +1,0 @@
-use Rattle.std.proofs.Common.{sym}
-use Rattle.std.proofs.lemmas.List.{get_or_past}
-use Rattle.pattern.proofs.values.word.Goals as goal
-
-pub returns-else-index-words : goal.returns-else-index-words
-returns-else-index-words c = sym (get_or_past c.args.words.now c.args.index 0 c.if-index-words.false)
