@@ -1,9 +1,10 @@
 // Why a board refuses.
-ghost use Rattle.std.specs.Prelude.{◌≡◌};
 ghost use Rattle.board.specs.Faults.{board_number, board_place, run_number, run_place};
 
+use fault::Fault;
+
 // Why an issue or a store is refused. Each holds how many operands wait.
-#[derive(Clone, Copy, Debug, PartialEq)]
+#[derive(Clone, Copy, Debug, PartialEq, Eq)]
 pub enum BoardFault {
     // No instruction has the opcode.
     UnknownOpcode(usize),
@@ -17,10 +18,12 @@ pub enum BoardFault {
     NoRoom(usize),
 }
 
-impl BoardFault {
-    pub fn number(self) -> u32
-        ensures { result ≡ board_number self }
-    {
+impl Fault for BoardFault {
+    ghost number_of = { board_number };
+
+    ghost place_of = { board_place };
+
+    fn number(self) -> u32 {
         match self {
             BoardFault::UnknownOpcode(_) => 21,
             BoardFault::OperandLacking(_) => 22,
@@ -30,9 +33,7 @@ impl BoardFault {
         }
     }
 
-    pub fn place(self) -> usize
-        ensures { result ≡ board_place self }
-    {
+    fn place(self) -> usize {
         match self {
             BoardFault::UnknownOpcode(waiting)
             | BoardFault::OperandLacking(waiting)
@@ -44,24 +45,24 @@ impl BoardFault {
 }
 
 // Why a run is refused.
-#[derive(Clone, Copy, Debug, PartialEq)]
+#[derive(Clone, Copy, Debug, PartialEq, Eq)]
 pub enum RunFault {
     // Not exactly 64 variables; holds how many.
     WrongCount(usize),
 }
 
-impl RunFault {
-    pub fn number(self) -> u32
-        ensures { result ≡ run_number self }
-    {
+impl Fault for RunFault {
+    ghost number_of = { run_number };
+
+    ghost place_of = { run_place };
+
+    fn number(self) -> u32 {
         match self {
             RunFault::WrongCount(_) => 34,
         }
     }
 
-    pub fn place(self) -> usize
-        ensures { result ≡ run_place self }
-    {
+    fn place(self) -> usize {
         match self {
             RunFault::WrongCount(count) => count,
         }

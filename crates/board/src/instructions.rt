@@ -6,7 +6,7 @@ use pattern::places::Place;
 mod checks;
 
 // The meaning's operands go by the letters of their PLACES.
-#[derive(Clone, Copy)]
+#[derive(Clone, Copy, PartialEq)]
 pub struct Instruction {
     pub opcode: u32,
     pub mnemonic: ShortName,

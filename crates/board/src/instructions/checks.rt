@@ -1,15 +1,13 @@
 // What an instruction asks of the operands that wait and of its payloads.
-ghost use Rattle.std.specs.Prelude.{◌≡◌, false, List, ◌∷◌, length, MatchOption, nat_lt};
+ghost use Rattle.std.specs.Prelude.{◌≡◌, false, List, ◌∷◌, length, MatchOption};
 ghost use Rattle.std.specs.Str.{bytes_eq};
-ghost use Rattle.pattern.specs.Items.{leaves_in};
 ghost use Rattle.board.specs.Acts.{last_of};
 ghost use Rattle.board.specs.Instructions.{operand_list, leaf_list, item_admits, instruction_operands, instruction_leaves};
 ghost use Rattle.board.specs.Payloads.{admits_all};
 
 use super::Instruction;
 use pattern::items::Item;
-
-const LAST_VARIABLE: u32 = 63;
+use tree::nodes::LAST_VARIABLE;
 
 // The letters after the item's own, where it is an operand; none where its letter is not the first.
 fn past_operand<'a>(item: Item, letters: &'a [u8]) -> Option<&'a [u8]>
@@ -53,21 +51,12 @@ fn leaf_admits(item: Item, payload: u32) -> bool
 fn past_leaf<'a>(item: Item, payloads: &'a [u32]) -> Option<&'a [u32]>
     ensures { MatchOption result ((xs : List Item) → admits_all (leaf_list (item ∷ xs)) payloads.now ≡ false) (λ rest. (xs : List Item) → admits_all (leaf_list (item ∷ xs)) payloads.now ≡ admits_all (leaf_list xs) rest.now) }
 {
-    if !is_leaf(item) {
+    if item.leaves() == 0 {
         return Some(payloads);
     }
     match payloads {
         [first, rest @ ..] if leaf_admits(item, *first) => Some(rest),
         _ => None,
-    }
-}
-
-fn is_leaf(item: Item) -> bool
-    ensures { result ≡ nat_lt 0 (leaves_in item) }
-{
-    match item {
-        Item::Constant(_) | Item::Variable => true,
-        Item::Operand(_) | Item::Unary(_) | Item::Binary(_) => false,
     }
 }
 
@@ -91,13 +80,13 @@ impl Instruction {
         ensures { result ≡ bytes_eq (last_of (length (instruction_operands self.now)) waiting.now) (instruction_operands self.now) }
     {
         let from = waiting.len().saturating_sub(self.meaning.operands);
-        letters_match(&self.meaning.items[0..self.meaning.len], &waiting[from..])
+        letters_match(self.meaning.items.as_slice(), &waiting[from..])
     }
 
     // Whether each leaf of the meaning admits its payload, from the left; payloads past the leaves are spare.
     pub fn admits(&self, payloads: &[u32]) -> bool
         ensures { result ≡ admits_all (instruction_leaves self.now) payloads.now }
     {
-        payloads_admitted(&self.meaning.items[0..self.meaning.len], payloads)
+        payloads_admitted(self.meaning.items.as_slice(), payloads)
     }
 }

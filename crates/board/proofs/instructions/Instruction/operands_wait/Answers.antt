@@ -1,5 +1,4 @@
-use Rattle.std.proofs.Common.{◌≡◌, ◌-◌, length, take, drop, sym, ap, ◌∙◌}
-use native.Mathlib.Nat.{sub-zero}
+use Rattle.std.proofs.Common.{◌≡◌, ◌-◌, length, drop, sym, ap, ◌∙◌}
 use Rattle.std.specs.Str.{bytes_eq}
 use Rattle.std.proofs.lemmas.List.{take_rest}
 use Rattle.pattern.specs.Patterns.{items_of}
@@ -13,6 +12,5 @@ returns c =
     let w = c.args.waiting.now in
     let from = c.saturating_sub-from.result in
     let asked : i.meaning.operands ≡ length (instruction_operands i) = i.meaning.counted ∙ sym (operands_counted (items_of i.meaning)) in
-    let whole : take (i.meaning.len - 0) i.meaning.items ≡ items_of i.meaning = ap (λ k. take k i.meaning.items) (sub-zero i.meaning.len) in
     let start : from ≡ length w - length (instruction_operands i) = c.saturating_sub-from.ensures ∙ ap (λ k. length w - k) asked in
-    c.letters_match.ensures ∙ (λ j. bytes_eq (take_rest w from j) (operand_list (whole j))) ∙ ap (λ k. bytes_eq (drop k w) (instruction_operands i)) start
+    c.letters_match.ensures ∙ (λ j. bytes_eq (take_rest w from j) (operand_list (c.as_slice.ensures.value j))) ∙ ap (λ k. bytes_eq (drop k w) (instruction_operands i)) start

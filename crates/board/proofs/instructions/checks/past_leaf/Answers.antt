@@ -1,4 +1,5 @@
 use Rattle.std.proofs.Common.{◌&&◌, sym, ap, ◌∙◌, arith, ltb-false, ltb-true}
+use Rattle.std.proofs.lemmas.Bool.{lt-ltb}
 use Rattle.board.specs.Instructions.{leaf_list}
 use Rattle.board.specs.Payloads.{admits_all}
 use Rattle.board.proofs.Fronts.{rest_of}
@@ -9,5 +10,5 @@ pub returns-in-len1-up : goal.returns-in-len1-up
 returns-in-len1-up c xs =
     let ws = c.args.payloads.now in
     let x = c.args.item in
-    leaf_front x xs ws (sym c.if-not-is_leaf.ensures) (omega (arith, ltb-true, ltb-false))
+    leaf_front x xs ws (lt-ltb 0 _ (omega (arith, c.leaves.ensures, c.if-leaves-eq0.false))) (omega (arith, ltb-true, ltb-false))
     ∙ ap (λ b. b && admits_all (leaf_list xs) (rest_of ws)) (sym c.leaf_admits.ensures ∙ c.if-leaf_admits.true)
