@@ -28,7 +28,7 @@ impl Cost for Cycles {
     }
 
     fn at_most(self, other: Cycles) -> bool {
-        self.amount <= other.amount
+        self <= other
     }
 }
 
@@ -52,20 +52,21 @@ impl Cost for Size {
     }
 
     fn plus(self, other: Size) -> Size {
-        let Some(bytes) = self.bytes.checked_add(other.bytes) else {
-            return Size {
+        match self.bytes.checked_add(other.bytes) {
+            Some(bytes) => Size {
+                bytes,
+                amount: self.amount.saturating_add(other.amount),
+            },
+            // Both halves stop together, since one alone could turn the order round.
+            None => Size {
                 bytes: u32::MAX,
                 amount: u32::MAX,
-            };
-        };
-        Size {
-            bytes,
-            amount: self.amount.saturating_add(other.amount),
+            },
         }
     }
 
     fn at_most(self, other: Size) -> bool {
-        self.bytes < other.bytes || self.bytes == other.bytes && self.amount <= other.amount
+        self <= other
     }
 }
 
@@ -85,12 +86,10 @@ impl Cost for Longest {
     }
 
     fn plus(self, other: Longest) -> Longest {
-        Longest {
-            amount: self.amount.max(other.amount),
-        }
+        self.max(other)
     }
 
     fn at_most(self, other: Longest) -> bool {
-        self.amount <= other.amount
+        self <= other
     }
 }

@@ -2,14 +2,14 @@
 ghost use Rattle.std.specs.Prelude.{◌^◌, ◌<◌};
 
 // Cycles, added up.
-#[derive(Clone, Copy, Debug, PartialEq)]
+#[derive(Clone, Copy, Debug, PartialEq, Eq, PartialOrd, Ord)]
 pub struct Cycles {
     pub amount: u32,
     ghost bounded: { amount < 2 ^ 32 },
 }
 
 // Bytes, and among equals cycles.
-#[derive(Clone, Copy, Debug, PartialEq)]
+#[derive(Clone, Copy, Debug, PartialEq, Eq, PartialOrd, Ord)]
 pub struct Size {
     pub bytes: u32,
     pub amount: u32,
@@ -18,7 +18,8 @@ pub struct Size {
 }
 
 // The cycles of the longest instruction.
-#[derive(Clone, Copy, Debug, PartialEq)]
+// Not one generic type with `Cycles`: the two differ in their sum alone, and in that the trait `Cost` is generic.
+#[derive(Clone, Copy, Debug, PartialEq, Eq, PartialOrd, Ord)]
 pub struct Longest {
     pub amount: u32,
     ghost bounded: { amount < 2 ^ 32 },

@@ -8,16 +8,10 @@ use crate::Cost;
 fn lower<C: Cost>(found: Option<(usize, C)>, i: usize, entry: Option<C>) -> Option<(usize, C)>
     ensures { result ≡ lowered C.Cost.kind found i entry }
 {
-    let Some(cost) = entry else {
-        return found;
-    };
-    match found {
-        Some((at, least)) => Some(if least.at_most(cost) {
-            (at, least)
-        } else {
-            (i, cost)
-        }),
-        None => Some((i, cost)),
+    match (found, entry) {
+        (_, None) => found,
+        (Some((_, least)), Some(cost)) if least.at_most(cost) => found,
+        (_, Some(cost)) => Some((i, cost)),
     }
 }
 
@@ -25,12 +19,8 @@ fn lower<C: Cost>(found: Option<(usize, C)>, i: usize, entry: Option<C>) -> Opti
 pub fn least<C: Cost>(row: &[Option<C>]) -> Option<usize>
     ensures { MatchOption result (AllAbsent row.now) (λ i. FirstLeast C.Cost.kind row.now i) }
 {
-    let mut found: Option<(usize, C)> = None;
-    for (i, entry) in row.iter().enumerate() {
-        found = lower(found, i, *entry);
-    }
-    match found {
-        Some((i, _)) => Some(i),
-        None => None,
-    }
+    row.iter()
+        .enumerate()
+        .fold(None, |found, (i, entry)| lower(found, i, *entry))
+        .map(|(i, _)| i)
 }

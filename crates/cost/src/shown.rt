@@ -8,8 +8,7 @@ impl fmt::Display for Cycles {
     ghost output = { λ c. Some (decimal c.amount) };
 
     fn fmt<W: fmt::Write>(&self, f: &mut fmt::Formatter<W>) -> fmt::Result {
-        let amount = self.amount;
-        write!(f, "{amount}")
+        write!(f, "{}", self.amount)
     }
 }
 
@@ -18,9 +17,7 @@ impl fmt::Display for Size {
     ghost output = { λ c. Some (decimal c.bytes ++ (codes "/" ++ decimal c.amount)) };
 
     fn fmt<W: fmt::Write>(&self, f: &mut fmt::Formatter<W>) -> fmt::Result {
-        let bytes = self.bytes;
-        let amount = self.amount;
-        write!(f, "{bytes}/{amount}")
+        write!(f, "{}/{}", self.bytes, self.amount)
     }
 }
 
@@ -28,7 +25,6 @@ impl fmt::Display for Longest {
     ghost output = { λ c. Some (decimal c.amount) };
 
     fn fmt<W: fmt::Write>(&self, f: &mut fmt::Formatter<W>) -> fmt::Result {
-        let amount = self.amount;
-        write!(f, "{amount}")
+        write!(f, "{}", self.amount)
     }
 }

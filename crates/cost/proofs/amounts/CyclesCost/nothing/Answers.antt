@@ -1,6 +1,0 @@
-use Rattle.std.proofs.Common.{refl}
-use Rattle.cost.specs.Laws.{same_cycles}
-use Rattle.cost.proofs.amounts.CyclesCost.nothing.Goals as goal
-
-pub returns : goal.returns
-returns c = same_cycles _ _ refl

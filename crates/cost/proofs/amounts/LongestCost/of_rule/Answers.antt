@@ -1,6 +1,0 @@
-use Rattle.std.proofs.Common.{refl}
-use Rattle.cost.specs.Laws.{same_longest}
-use Rattle.cost.proofs.amounts.LongestCost.of_rule.Goals as goal
-
-pub returns : goal.returns
-returns c = same_longest _ _ refl
