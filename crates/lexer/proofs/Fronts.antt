@@ -1,11 +1,10 @@
 -- The token at the front of the bytes, by the first of them.
-use Rattle.std.proofs.Common.{◌≡◌, ℕ, suc, ◌+◌, ◌-◌, true, false, List, [], ◌∷◌, length, get_or, take, drop, Ok, sym, ap, ◌∙◌, arith}
-use Rattle.std.proofs.lemmas.List.{take_all}
+use Rattle.std.proofs.Common.{◌≡◌, ℕ, true, false, List, ◌∷◌, take, Ok, ◌∙◌, arith}
 use Rattle.std.proofs.lemmas.Bool.{cond-true, cond-false}
 use Rattle.std.proofs.lemmas.Bool.Decides.{nat_tests}
-use Rattle.lexer.specs.declared.Token.TheVariants.{Capitals, Percent}
+use Rattle.lexer.specs.declared.Token.TheVariants.{Capitals}
 use Rattle.lexer.specs.Bytes.{longest_run, base_ten, is_digit, is_lower, is_capital, is_lower_or_digit}
-use Rattle.lexer.specs.Tokens.{token_of, number_token, name_or_fault, dots_or_fault}
+use Rattle.lexer.specs.Tokens.{token_of, number_token, name_or_fault}
 
 module _ (p b : ℕ) (after : List ℕ) where
   pub digit_first : is_digit b ≡ true → token_of p (b ∷ after) ≡ Ok (number_token (base_ten (take (longest_run is_digit (b ∷ after)) (b ∷ after))), longest_run is_digit (b ∷ after))
@@ -19,14 +18,3 @@ module _ (p b : ℕ) (after : List ℕ) where
       let d : is_digit b ≡ false = grind (arith, nat_tests) in
       let l : is_lower b ≡ false = grind (arith, nat_tests) in
       cond-false (is_digit b) _ _ d ∙ cond-false (is_lower b) _ _ l ∙ cond-true (is_capital b) _ _ h
-
--- what follows the first byte, as the code has it
-pub percent_first : (p : ℕ) (bs : List ℕ) → get_or bs 0 0 ≡ 37 → token_of p bs ≡ Ok (Percent, 1 + longest_run is_lower_or_digit (take (length bs - 1) (drop 1 bs)))
-percent_first p [] e = absurd (omega arith)
-percent_first p (b ∷ bs) e =
-    ap (λ x. token_of p (x ∷ bs)) e ∙ ap (λ l. Ok (Percent, 1 + longest_run is_lower_or_digit l)) (sym (take_all (suc (length bs) - 1) bs (omega arith)))
-
-pub stop_first : (p : ℕ) (bs : List ℕ) → get_or bs 0 0 ≡ 46 → token_of p bs ≡ dots_or_fault p (take (length bs - 1) (drop 1 bs))
-stop_first p [] e = absurd (omega arith)
-stop_first p (b ∷ bs) e =
-    ap (λ x. token_of p (x ∷ bs)) e ∙ ap (λ l. dots_or_fault p l) (sym (take_all (suc (length bs) - 1) bs (omega arith)))

@@ -1,6 +1,5 @@
 -- What is read after an offset is what stands there.
-use Rattle.std.proofs.Common.{◌≡◌, ℕ, ◌+◌, ◌-◌, ◌<◌, ◌≤◌, true, false, List, [], ◌∷◌, length, get_or, take, drop, Ok, Err, sym, refl, ap, ◌∙◌, subst, add-zero, arith, length-drop, get_or-drop}
-use Rattle.std.proofs.lemmas.List.{take_rest}
+use Rattle.std.proofs.Common.{◌≡◌, ℕ, ◌+◌, ◌-◌, ◌<◌, ◌≤◌, true, false, List, [], ◌∷◌, length, get_or, take, drop, Ok, Err, sym, refl, ap, ◌∙◌, subst, add-zero, arith, length-take, length-drop, get_or-drop}
 use Rattle.std.proofs.lemmas.Bool.{eq-eqb, ne_eqb, eqb-true, both_ways}
 use Rattle.lexer.specs.declared.Token.{Token}
 use Rattle.lexer.specs.declared.LexicalFault.{LexicalFault}
@@ -111,12 +110,8 @@ found_again_lem bs o h t p n e =
     read_where_stands bs p (omega (arith, s.inside)) t p n
     (record { spaces = (omega arith, λ k low high. absurd (omega arith)); inside = s.inside; denotes = s.denotes })
 
--- a reading as the code does it: s spaces are passed, and r is what the rest of the text begins with
-module _ (bs : List ℕ) (o s : ℕ) (r : Front) (run : s ≡ longest_run is_space (take (length bs - o) (drop o bs))) (front : r ≡ token_of (o + s) (take (length bs - (o + s)) (drop (o + s) bs))) where
-  pub answered : placed (o + s) r ≡ token_at bs o
-  answered =
-      ap (placed (o + s)) (front ∙ ap (token_of (o + s)) (take_rest bs (o + s)))
-      ∙ ap (λ p. placed p (token_of p (drop p bs))) (ap (λ n. o + n) (run ∙ ap (longest_run is_space) (take_rest bs o)))
-
-  pub answer_inside : o ≤ length bs → (t : Token) (n : ℕ) → r ≡ Ok (t, n) → o + s + n ≤ length bs
-  answer_inside h t n e = (stands_where_read bs o h t (o + s) n (sym answered ∙ ap (placed (o + s)) e)).inside
+-- a token that is read at place p, where the rest of the text is a slice of it, lies within the text
+pub read_inside : (bs : List ℕ) (p : ℕ) → p ≤ length bs → (r : Front) → r ≡ token_of p (take (length bs - p) (drop p bs)) → (t : Token) (n : ℕ) → r ≡ Ok (t, n) → p + n ≤ length bs
+read_inside bs p h r front t n e =
+    let rest = take (length bs - p) (drop p bs) in
+    omega (arith, denoted_inside t rest n (denoted_by_token p rest t n (sym front ∙ e)), length-take (length bs - p) (drop p bs), length-drop p bs)

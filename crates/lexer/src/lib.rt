@@ -11,7 +11,7 @@ mod runs;
 mod tests;
 
 // What a token is; its text stays where it stands.
-#[derive(Clone, Copy, Debug, PartialEq)]
+#[derive(Clone, Copy, Debug, PartialEq, Eq)]
 pub enum Token {
     LineEnd,
     Number(u32),
@@ -34,7 +34,7 @@ pub enum Token {
 }
 
 // Why there is no token; holds the byte's offset.
-#[derive(Clone, Copy, Debug, PartialEq)]
+#[derive(Clone, Copy, Debug, PartialEq, Eq)]
 pub enum LexicalFault {
     // A byte that starts no token.
     StrayByte(usize),

@@ -41,16 +41,14 @@ impl<'a> Lexer<'a> {
 fn front(bytes: &[u8], place: usize) -> Result<(Token, usize), LexicalFault>
     ensures { result ≡ token_of place bytes.now }
 {
-    let [first, after @ ..] = bytes else {
-        return Ok((Token::End, 0));
-    };
-    match *first {
-        b'0'..=b'9' => Ok(number(bytes)),
-        b'a'..=b'z' => name(bytes, place),
-        b'A'..=b'Z' => Ok((Token::Capitals, run_length(bytes, Class::Capital))),
-        b'%' => Ok((Token::Percent, 1 + run_length(after, Class::LowerOrDigit))),
-        b'.' => dots(after, place),
-        byte => mark(byte, place),
+    match bytes {
+        [] => Ok((Token::End, 0)),
+        [b'0'..=b'9', ..] => Ok(number(bytes)),
+        [b'a'..=b'z', ..] => name(bytes, place),
+        [b'A'..=b'Z', ..] => Ok((Token::Capitals, run_length(bytes, Class::Capital))),
+        [b'%', after @ ..] => Ok((Token::Percent, 1 + run_length(after, Class::LowerOrDigit))),
+        [b'.', after @ ..] => dots(after, place),
+        [byte, ..] => mark(*byte, place),
     }
 }
 
@@ -97,9 +95,6 @@ fn number(bytes: &[u8]) -> (Token, usize)
     ensures { (result.0 ≡ number_token (base_ten (take (longest_run is_digit bytes.now) bytes.now))) × (result.1 ≡ longest_run is_digit bytes.now) }
 {
     let length = run_length(bytes, Class::Digit);
-    let token = match number_value(&bytes[0..length]) {
-        Some(value) => Token::Number(value),
-        None => Token::HugeNumber,
-    };
+    let token = number_value(&bytes[..length]).map_or(Token::HugeNumber, Token::Number);
     (token, length)
 }

@@ -3,8 +3,6 @@ ghost use Rattle.std.specs.Prelude.{◌≡◌, ℕ, ◌^◌, ◌<◌, ◌≤◌,
 ghost use Rattle.std.specs.Option.{SomeIff};
 ghost use Rattle.lexer.specs.Bytes.{is_in, is_digit, longest_run, base_ten};
 
-const LAST_WORD: u64 = 4294967295;
-
 // What a run is made of.
 #[derive(Clone, Copy)]
 pub(crate) enum Class {
@@ -32,25 +30,19 @@ pub(crate) fn run_length(bytes: &[u8], class: Class) -> usize
     ensures longest { result ≡ longest_run (is_in class) bytes.now }
     ensures within { result ≤ length bytes.now }
 {
-    for (i, byte) in bytes.iter().enumerate() {
-        if !class.has(*byte) {
-            return i;
-        }
-    }
-    bytes.len()
+    bytes.iter().take_while(|&&byte| class.has(byte)).count()
 }
 
 // The number that the digits write, if it is a word.
+#[tactic(auto, using(crate::proofs::Digits::read_within))]
 pub(crate) fn number_value(digits: &[u8]) -> Option<u32>
     requires { (k : ℕ) → k < length digits.now → is_digit (slice_index digits.now k) ≡ true }
     ensures { SomeIff result (base_ten digits.now < 2 ^ 32) (base_ten digits.now) }
 {
-    let mut value: u64 = 0;
-    for digit in digits {
-        value = value * 10 + u64::from(*digit - b'0');
-        if value > LAST_WORD {
-            return None;
-        }
+    let mut value = 0u32;
+    // Not `try_fold`: a closure would not know that each byte is a digit.
+    for &digit in digits {
+        value = value.checked_mul(10)?.checked_add(u32::from(digit - b'0'))?;
     }
-    Some(value as u32)
+    Some(value)
 }

@@ -1,11 +1,7 @@
-use Rattle.std.proofs.Common.{◌-◌, ◌<◌, ap, ◌∙◌, arith, length-take, get_or-take}
-use Rattle.lexer.specs.Bytes.{is_digit}
-use Rattle.lexer.proofs.Longest.{run_all}
+use Rattle.std.proofs.Common.{arith}
+use Rattle.std.proofs.lemmas.Grind.{common_steps}
+use Rattle.std.proofs.lemmas.List.Sums.{prefix_len_passes}
 use Rattle.lexer.proofs.reading.number.Goals as goal
 
 pub number_value-requires : goal.number_value-requires
-number_value-requires c k h =
-    let bs = c.args.bytes.now in
-    let n = c.run_length-length.result in
-    let below : k < n - 0 = omega (arith, length-take (n - 0) bs) in
-    ap is_digit (get_or-take (n - 0) bs k 0 below) ∙ run_all is_digit bs k (omega (arith, c.run_length-length.ensures.longest))
+number_value-requires c k h = grind (arith, common_steps, prefix_len_passes)
