@@ -8,7 +8,7 @@ pub struct Cycles {
     ghost bounded: { amount < 2 ^ 32 },
 }
 
-// Bytes, and among equals cycles.
+// Bytes, and among equals cycles: sizes are ordered by their fields in turn.
 #[derive(Clone, Copy, Debug, PartialEq, Eq, PartialOrd, Ord)]
 pub struct Size {
     pub bytes: u32,
@@ -18,7 +18,7 @@ pub struct Size {
 }
 
 // The cycles of the longest instruction.
-// Not one generic type with `Cycles`: the two differ in their sum alone, and in that the trait `Cost` is generic.
+// A type of its own beside `Cycles`: the two differ in their sum, an operation, and that is what `Cost` is generic in.
 #[derive(Clone, Copy, Debug, PartialEq, Eq, PartialOrd, Ord)]
 pub struct Longest {
     pub amount: u32,
