@@ -67,6 +67,6 @@ patterns_decide p q =
     let compared = pointwise_decides items_decide p.items q.items in (
       λ e. compared.0 (and_parts _ (nat_eq p.operands q.operands && nat_eq p.leaves q.leaves) e).0,
       λ e. and_from _ _ (compared.1 e)
-      (and_from (nat_eq p.operands q.operands) (nat_eq p.leaves q.leaves)
-      (eq-eqb _ _ (p.counted ∙ ap count_of_operands e ∙ sym q.counted)) (eq-eqb _ _ (p.tallied ∙ ap count_of_leaves e ∙ sym q.tallied))),
+          (and_from (nat_eq p.operands q.operands) (nat_eq p.leaves q.leaves)
+          (eq-eqb _ _ (p.counted ∙ ap count_of_operands e ∙ sym q.counted)) (eq-eqb _ _ (p.tallied ∙ ap count_of_leaves e ∙ sym q.tallied))),
     )

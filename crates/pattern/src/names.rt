@@ -6,10 +6,13 @@ use rows::Row;
 
 mod calls;
 
+// A name has at most so many letters and digits.
+pub const NAME_LIMIT: usize = 8;
+
 // 1 to 8 lower-case letters or digits, a letter first.
 #[derive(Clone, Copy, PartialEq)]
 pub struct ShortName {
-    pub letters: Row<u8, 8>,
+    pub letters: Row<u8, NAME_LIMIT>,
     ghost formed: { short_name letters ≡ true },
 }
 

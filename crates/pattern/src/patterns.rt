@@ -17,7 +17,7 @@ pub const LEAF_LIMIT: usize = 2;
 // 1 to 7 items in reading order, an operator before its parts, with the numbers of their operands and of their leaves.
 #[derive(Clone, Copy, PartialEq)]
 pub struct Pattern {
-    pub items: Row<Item, 7>,
+    pub items: Row<Item, ITEM_LIMIT>,
     pub operands: usize,
     pub leaves: usize,
     ghost formed: { pattern_items items ≡ true },

@@ -1,7 +1,7 @@
 // Statements that keep the rules.
 ghost use Rattle.tree.specs.Statements.{StatementGranted};
 
-use crate::nodes::Node;
+use crate::nodes::{NODE_LIMIT, Node};
 use rows::Row;
 
 mod check;
@@ -10,6 +10,6 @@ mod check;
 #[derive(Clone, Copy)]
 pub struct CheckedStatement {
     pub target: u32,
-    pub nodes: Row<Node, 256>,
+    pub nodes: Row<Node, NODE_LIMIT>,
     ghost granted: { StatementGranted target nodes },
 }

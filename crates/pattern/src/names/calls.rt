@@ -3,7 +3,7 @@ ghost use Rattle.std.specs.Prelude.{◌≡◌, false, ◌||◌, MatchResult};
 ghost use Rattle.pattern.specs.Letters.{letters_of};
 ghost use Rattle.pattern.specs.Names.{all_plain, is_digit, is_lower, short_name};
 
-use super::{MalformedName, ShortName};
+use super::{MalformedName, NAME_LIMIT, ShortName};
 use rows::Row;
 
 fn plain(byte: u8) -> bool
@@ -21,7 +21,7 @@ fn plain_text(text: &[u8]) -> bool
 fn formed(text: &[u8]) -> bool
     ensures { result ≡ short_name text.now }
 {
-    if text.is_empty() || text.len() > 8 {
+    if text.is_empty() || text.len() > NAME_LIMIT {
         return false;
     }
     text[0].is_ascii_lowercase() && plain_text(text)

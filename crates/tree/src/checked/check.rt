@@ -47,16 +47,13 @@ fn variable_over(statement: Statement) -> Option<usize>
     ensures { PlaceOf (StatementFails statement.entry.target statement.entry.nodes.now) 13 result }
 {
     let nodes = statement.nodes;
-    for (i, node) in nodes.iter().enumerate() {
-        if node.operator == u32::from(Operator::Var) && node.payload > LAST_VARIABLE {
-            return Some(i);
-        }
+    let over = nodes.iter().position(|node| {
+        node.operator == u32::from(Operator::Var) && node.payload > LAST_VARIABLE
+    });
+    if over.is_none() && statement.target > LAST_VARIABLE {
+        return Some(nodes.len());
     }
-    if statement.target > LAST_VARIABLE {
-        Some(nodes.len())
-    } else {
-        None
-    }
+    over
 }
 
 impl Statement<'_> {
