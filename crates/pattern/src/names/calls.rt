@@ -1,10 +1,12 @@
 // How a short name is made.
-ghost use Rattle.std.specs.Prelude.{◌≡◌, false, ◌||◌, MatchResult};
+ghost use Rattle.std.specs.Prelude.{◌≡◌, false, ◌||◌, MatchResult, Some};
 ghost use Rattle.pattern.specs.Letters.{letters_of};
 ghost use Rattle.pattern.specs.Names.{all_plain, is_digit, is_lower, short_name};
 
 use super::{MalformedName, NAME_LIMIT, ShortName};
 use rows::Row;
+use std::fmt;
+use std::str::from_utf8;
 
 fn plain(byte: u8) -> bool
     ensures { result ≡ (is_lower byte || is_digit byte) }
@@ -41,5 +43,17 @@ impl TryFrom<&[u8]> for ShortName {
             unreachable()
         };
         Ok(ShortName { letters })
+    }
+}
+
+// The letters themselves.
+impl fmt::Display for ShortName {
+    ghost output = { λ n. Some (letters_of n) };
+
+    fn fmt<W: fmt::Write>(&self, f: &mut fmt::Formatter<W>) -> fmt::Result {
+        let Ok(text) = from_utf8(self.letters.as_slice()) else {
+            unreachable()
+        };
+        f.write_str(text)
     }
 }
