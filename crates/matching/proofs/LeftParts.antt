@@ -32,7 +32,7 @@ left_append n rs (x ∷ xs) ys =
     (left_append (suc n) (roots_after n rs x) xs ys
     ∙ ap (λ k. left_parts_from (suc n) (roots_after n rs x) xs ++ left_parts_from k (roots_from (suc n) (roots_after n rs x) xs) ys) same)
 
-length_left : (n : ℕ) (rs : List ℕ) (xs : List Node) → length (left_parts_from n rs xs) ≡ length xs
+pub length_left : (n : ℕ) (rs : List ℕ) (xs : List Node) → length (left_parts_from n rs xs) ≡ length xs
 length_left n rs [] = refl
 length_left n rs (x ∷ xs) = ap suc (length_left (suc n) (roots_after n rs x) xs)
 
@@ -49,11 +49,7 @@ module _ (xs : List Node) (i : ℕ) (h : i < length xs) where
 
 few_roots : (n : ℕ) (rs : List ℕ) (xs : List Node) → length (roots_from n rs xs) ≤ length rs + length xs
 few_roots n rs [] = omega arith
-few_roots n rs (x ∷ xs) =
-    omega (arith, few_roots (suc n) (roots_after n rs x) xs, less (parts_taken x) rs)
-  where
-    less : (k : ℕ) (qs : List ℕ) → length (drop k qs) ≤ length qs
-    less k qs = simp length-drop (omega arith)
+few_roots n rs (x ∷ xs) = omega (arith, few_roots (suc n) (roots_after n rs x) xs, length-drop (parts_taken x) rs)
 
 pub roots_few : (xs : List Node) → length (roots_from 0 [] xs) ≤ length xs
 roots_few xs = omega (arith, few_roots 0 [] xs)

@@ -1,6 +1,7 @@
 -- A function that matches a shape at a tree, and that it finds exactly the matches.
 use Rattle.std.proofs.Common.{◌≡◌, ℕ, ◌+◌, Bool, true, false, cond, ◌&&◌, eqb, leb, List, [], ◌∷◌, ◌++◌, map, length, drop, Some, None, Option, sym, refl, ap, ◌∙◌, subst, append_assoc, append-nil, arith}
 use Rattle.std.proofs.lemmas.List.{drop_at, map-append, length-append, length-map}
+use Rattle.std.proofs.lemmas.Option.{none-some}
 use Rattle.std.proofs.lemmas.Bool.{eqb-true, eq-eqb, leb-true, le-leb, and_parts, and_from, cond-true}
 use Rattle.operators.specs.declared.Unary.{Unary}
 use Rattle.operators.specs.declared.Binary.{Binary}
@@ -109,26 +110,26 @@ matches_once_lem p t n gs gs' ws ws' m m' =
 -- a tree with this operator, from its parts
 is_cnst : (t : Tree) → top_operator t ≡ Cnst → cnst (top_payload t) ≡ t
 is_cnst (cnst w) e = refl
-is_cnst (var v) e = let z : ◌≡◌ {A = ℕ} 0 1 = cc in absurd (omega arith)
-is_cnst (one o t) e = let z : ◌≡◌ {A = ℕ} 0 1 = cc in absurd (omega arith)
-is_cnst (two o t u) e = let z : ◌≡◌ {A = ℕ} 0 1 = cc in absurd (omega arith)
+is_cnst (var v) e = cc
+is_cnst (one o t) e = cc
+is_cnst (two o t u) e = cc
 
 is_var : (t : Tree) → top_operator t ≡ Var → var (top_payload t) ≡ t
-is_var (cnst w) e = let z : ◌≡◌ {A = ℕ} 0 1 = cc in absurd (omega arith)
+is_var (cnst w) e = cc
 is_var (var v) e = refl
-is_var (one o t) e = let z : ◌≡◌ {A = ℕ} 0 1 = cc in absurd (omega arith)
-is_var (two o t u) e = let z : ◌≡◌ {A = ℕ} 0 1 = cc in absurd (omega arith)
+is_var (one o t) e = cc
+is_var (two o t u) e = cc
 
 pub is_one : (o : Unary) (t : Tree) → top_operator t ≡ One o → one o (right_tree t) ≡ t
-is_one o (cnst w) e = let z : ◌≡◌ {A = ℕ} 0 1 = cc in absurd (omega arith)
-is_one o (var v) e = let z : ◌≡◌ {A = ℕ} 0 1 = cc in absurd (omega arith)
+is_one o (cnst w) e = cc
+is_one o (var v) e = cc
 is_one o (one o' t) e = let same : o ≡ o' = cc in ap (λ p. one p t) same
-is_one o (two o' t u) e = let z : ◌≡◌ {A = ℕ} 0 1 = cc in absurd (omega arith)
+is_one o (two o' t u) e = cc
 
 pub is_two : (o : Binary) (t : Tree) → top_operator t ≡ Two o → two o (left_tree t) (right_tree t) ≡ t
-is_two o (cnst w) e = let z : ◌≡◌ {A = ℕ} 0 1 = cc in absurd (omega arith)
-is_two o (var v) e = let z : ◌≡◌ {A = ℕ} 0 1 = cc in absurd (omega arith)
-is_two o (one o' t) e = let z : ◌≡◌ {A = ℕ} 0 1 = cc in absurd (omega arith)
+is_two o (cnst w) e = cc
+is_two o (var v) e = cc
+is_two o (one o' t) e = cc
 is_two o (two o' t u) e = let same : o ≡ o' = cc in ap (λ p. two p t u) same
 
 -- what is found
@@ -137,7 +138,7 @@ MatchedBy p t n f = Matches p t n f.goals f.payloads
 
 cond_some : (b : Bool) (x : Option Found) (f : Found) → cond b x None ≡ Some f → (b ≡ true) × (x ≡ Some f)
 cond_some true x f e = (refl, e)
-cond_some false x f e = let z : ◌≡◌ {A = ℕ} 0 1 = cc in absurd (omega arith)
+cond_some false x f e = absurd (none-some f e)
 
 record Halves (x y : Option Found) (f : Found) : Type 0 where
   first : Found
@@ -147,8 +148,8 @@ record Halves (x y : Option Found) (f : Found) : Type 0 where
   joined : found (first.goals ++ second.goals) (first.payloads ++ second.payloads) ≡ f
 
 halves : (x y : Option Found) (f : Found) → both x y ≡ Some f → Halves x y f
-halves None y f e = let z : ◌≡◌ {A = ℕ} 0 1 = cc in absurd (omega arith)
-halves (Some g) None f e = let z : ◌≡◌ {A = ℕ} 0 1 = cc in absurd (omega arith)
+halves None y f e = absurd (none-some f e)
+halves (Some g) None f e = absurd (none-some f e)
 halves (Some g) (Some h) f e = record { first = g; second = h; first_is = refl; second_is = refl; joined = cc }
 
 -- what is found is a match

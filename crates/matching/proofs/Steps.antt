@@ -1,7 +1,8 @@
 -- Matching item by item finds exactly what the pattern's shape matches.
 use Rattle.std.proofs.Common.{◌≡◌, ℕ, ◌+◌, ◌-◌, ◌<◌, ◌≤◌, Bool, true, false, cond, ◌&&◌, List, [], ◌∷◌, ◌++◌, map, length, get_or, drop, Some, None, Option, sym, refl, ap, ◌∙◌, subst, append_assoc, append-nil, arith, MatchOption}
 use Rattle.std.specs.List.{AllByRecursion}
-use Rattle.std.proofs.lemmas.List.{map-append, get_or-take, length-take-le}
+use Rattle.std.proofs.lemmas.List.{map-append}
+use Rattle.std.proofs.lemmas.Option.{none-some}
 use Rattle.std.proofs.lemmas.Bool.{cond-true, cond-false}
 use Rattle.operators.specs.declared.Unary.{Unary as UnaryOperator}
 use Rattle.operators.specs.declared.Binary.{Binary as BinaryOperator}
@@ -18,12 +19,11 @@ use Rattle.matching.specs.Checked.{tree_nodes}
 use Rattle.matching.specs.Found.{operands_found, payloads_found}
 use Rattle.pattern.specs.Items.{item_parts, operands_in, leaves_in}
 use Rattle.matching.specs.Matching.{fallen, NoMatch, Reports}
-use Rattle.matching.specs.Parts.{left_parts}
 use Rattle.pattern.specs.Ranges.{admitted}
 use Rattle.pattern.specs.Shapes.{Shape, operand_shape, constant_shape, variable_shape, unary_shape, binary_shape, reading}
 use Rattle.matching.specs.Steps.{fits_node, part_nodes, operand_there, payload_there, found_from}
 use Rattle.matching.specs.Subtrees.{root_of, SubtreeAt}
-use Rattle.matching.proofs.LeftParts.{parts_are_roots_lem}
+use Rattle.matching.proofs.LeftParts.{length_left, parts_are_roots_lem}
 use Rattle.matching.proofs.Matched.{Found, after, both, matched, sound, finds, top_operator, top_payload, left_tree, right_tree, tops, tops_is, is_one, is_two}
 use Rattle.matching.proofs.Subtrees.{subtree_of, some_node, root_is, node_there, part_of_one, left_of_two, right_of_two}
 
@@ -32,25 +32,19 @@ cond_same true x y z f = f refl
 cond_same false x y z f = refl
 
 module _ (t : CheckedTree) where
-  pub tree_length : length (tree_nodes t) ≡ t.len
-  tree_length = length-take-le t.len t.nodes (omega (arith, t.sized, t.within))
+  pub left_each : length t.left ≡ length (tree_nodes t)
+  left_each = ap length t.parted ∙ length_left 0 [] (tree_nodes t)
 
   -- node k is the root of the subtree u, whose first node is node n
   abbrev pub There : ℕ → Tree → ℕ → Type 0
   There k u n = SubtreeAt (tree_nodes t) k u n
 
   -- each node of a checked tree is the root of a subtree
-  pub subtree_there : (k : ℕ) → k < t.len → (u : Tree) × ((n : ℕ) × There k u n)
-  subtree_there k h = subtree_of t.target (tree_nodes t) t.granted k (omega (arith, tree_length))
+  pub subtree_there : (k : ℕ) → k < length (tree_nodes t) → (u : Tree) × ((n : ℕ) × There k u n)
+  subtree_there k h = subtree_of t.statement.target (tree_nodes t) t.statement.granted k h
 
-  pub inside_len : {k : ℕ} {u : Tree} {n : ℕ} → There k u n → k < t.len
-  inside_len s = omega (arith, s.inside, tree_length)
-
-  pub node_is : {k : ℕ} {u : Tree} {n : ℕ} → There k u n → node_at t.nodes k ≡ node_of (top_operator u) (top_payload u)
-  node_is {k} {u} {n} s = sym (get_or-take t.len t.nodes k _ (inside_len s)) ∙ node_there (tree_nodes t) k u n s
-
-  left_is : (k : ℕ) → k < t.len → get_or (left_parts (tree_nodes t)) k 0 ≡ get_or t.left k 0
-  left_is k h = sym (ap (λ l. get_or l k 0) t.parted) ∙ get_or-take t.len t.left k 0 h
+  pub node_is : {k : ℕ} {u : Tree} {n : ℕ} → There k u n → node_at (tree_nodes t) k ≡ node_of (top_operator u) (top_payload u)
+  node_is {k} {u} {n} s = node_there (tree_nodes t) k u n s
 
   -- the parts of a subtree stand where the code looks for them
   pub only_part : {k : ℕ} {u : Tree} {n : ℕ} (o : UnaryOperator) → There k u n → top_operator u ≡ One o → There (k - 1) (right_tree u) n
@@ -68,7 +62,7 @@ module _ (t : CheckedTree) where
   pub left_part_there : {k : ℕ} {u : Tree} {n : ℕ} (o : BinaryOperator) → There k u n → top_operator u ≡ Two o → There (get_or t.left k 0) (left_tree u) n
   left_part_there {k} {u} {n} o s e =
       let r : There k (two o (left_tree u) (right_tree u)) n = subst (λ v. There k v n) (sym (is_two o u e)) s in
-      subst (λ j. There j (left_tree u) n) (sym ((parts_are_roots_lem (tree_nodes t) k n).0 o (left_tree u) (right_tree u) r).0 ∙ left_is k (inside_len s))
+      subst (λ j. There j (left_tree u) n) (sym ((parts_are_roots_lem (tree_nodes t) k n).0 o (left_tree u) (right_tree u) r).0 ∙ sym (ap (λ l. get_or l k 0) t.parted))
       (left_of_two (tree_nodes t) k o (left_tree u) (right_tree u) n r)
 
   -- what is found in all, where a shape was matched first
@@ -132,14 +126,13 @@ module _ (t : CheckedTree) where
   no_match : (p : Shape) {k : ℕ} {u : Tree} {n : ℕ} (xs : List Item) → reading p ≡ xs → There k u n → found_from t xs (k ∷ []) [] [] ≡ None → NoMatch p u n
   no_match p {k} {u} {n} xs e s none gs ws m =
       let z : ◌≡◌ {A = Option (List OperandAt × List ℕ)} None (Some (map fallen gs, ws)) = sym none ∙ report p xs e s ∙ ap (continued [] [] [] []) (finds m) in
-      let y : ◌≡◌ {A = ℕ} 0 1 = cc in
-      omega arith
+      none-some _ z
 
   a_match : (p : Shape) {k : ℕ} {u : Tree} {n : ℕ} (xs : List Item) → reading p ≡ xs → There k u n → (m : Match) → found_from t xs (k ∷ []) [] [] ≡ Some (operands_found m, payloads_found m) → Reports p u n m
   a_match p {k} {u} {n} xs e s m some = go (matched p u n) refl (sym (report p xs e s) ∙ some)
     where
       go : (x : Option Found) → matched p u n ≡ x → continued [] [] [] [] x ≡ Some (operands_found m, payloads_found m) → Reports p u n m
-      go None is h = let z : ◌≡◌ {A = ℕ} 0 1 = cc in absurd (omega arith)
+      go None is h = absurd (none-some _ h)
       go (Some f) is h =
           let same : ◌≡◌ {A = List OperandAt × List ℕ} (map fallen f.goals, f.payloads) (operands_found m, payloads_found m) = cc in
           record { goals = f.goals; words = f.payloads; holds = sound p u n f is; operands_are = sym (ap (λ x. x.0) same); payloads_are = sym (ap (λ x. x.1) same) }
@@ -150,21 +143,21 @@ module _ (t : CheckedTree) where
 
   -- one item in the code's words: it stands at node k, and after it ks' wait and os' and ws' are found
   module _ (x : Item) (xs : List Item) (ks : List ℕ) (os : List OperandAt) (ws : List ℕ) (k : ℕ) (next : k ≡ get_or ks 0 0) where
-    at_next : found_from t (x ∷ xs) ks os ws ≡ stepped x xs k (drop 1 ks) os ws (node_at t.nodes k)
-    at_next = ap (λ j. stepped x xs j (drop 1 ks) os ws (node_at t.nodes j)) (sym next)
+    at_next : found_from t (x ∷ xs) ks os ws ≡ stepped x xs k (drop 1 ks) os ws (node_at (tree_nodes t) k)
+    at_next = ap (λ j. stepped x xs j (drop 1 ks) os ws (node_at (tree_nodes t) j)) (sym next)
 
-    pub step_on : (ks' : List ℕ) (os' : List OperandAt) (ws' : List ℕ) → true ≡ fits_node x (node_at t.nodes k) → ks' ≡ part_nodes x k (get_or t.left k 0) ++ drop 1 ks → os' ≡ os ++ operand_there x k → ws' ≡ ws ++ payload_there x (node_at t.nodes k).payload → found_from t (x ∷ xs) ks os ws ≡ found_from t xs ks' os' ws'
+    pub step_on : (ks' : List ℕ) (os' : List OperandAt) (ws' : List ℕ) → true ≡ fits_node x (node_at (tree_nodes t) k) → ks' ≡ part_nodes x k (get_or t.left k 0) ++ drop 1 ks → os' ≡ os ++ operand_there x k → ws' ≡ ws ++ payload_there x (node_at (tree_nodes t) k).payload → found_from t (x ∷ xs) ks os ws ≡ found_from t xs ks' os' ws'
     step_on ks' os' ws' fit e f g =
-        at_next ∙ cond-true (fits_node x (node_at t.nodes k)) _ _ (sym fit) ∙ sym (λ i. found_from t xs (e i) (f i) (g i))
+        at_next ∙ cond-true (fits_node x (node_at (tree_nodes t) k)) _ _ (sym fit) ∙ sym (λ i. found_from t xs (e i) (f i) (g i))
 
-    pub stop : false ≡ fits_node x (node_at t.nodes k) → found_from t (x ∷ xs) ks os ws ≡ None
-    stop misfit = at_next ∙ cond-false (fits_node x (node_at t.nodes k)) _ _ (sym misfit)
+    pub stop : false ≡ fits_node x (node_at (tree_nodes t) k) → found_from t (x ∷ xs) ks os ws ≡ None
+    stop misfit = at_next ∙ cond-false (fits_node x (node_at (tree_nodes t) k)) _ _ (sym misfit)
 
   -- the nodes that wait are nodes of the tree
   abbrev pub Nodes : List ℕ → Type 0
-  Nodes ks = AllByRecursion (λ k. k < t.len) ks
+  Nodes ks = AllByRecursion (λ k. k < length (tree_nodes t)) ks
 
-  pub next_inside : (ks : List ℕ) → 0 < t.len → Nodes ks → get_or ks 0 0 < t.len
+  pub next_inside : (ks : List ℕ) → 0 < length (tree_nodes t) → Nodes ks → get_or ks 0 0 < length (tree_nodes t)
   next_inside [] h a = h
   next_inside (k ∷ ks) h a = a.0
 
@@ -173,34 +166,36 @@ module _ (t : CheckedTree) where
   rest_inside (k ∷ ks) a = a.1
 
   -- an operator of an item that fits is that of the subtree
-  tops_one : {k : ℕ} {u : Tree} {n : ℕ} (o : UnaryOperator) → There k u n → fits_node (Unary o) (node_at t.nodes k) ≡ true → top_operator u ≡ One o
+  tops_one : {k : ℕ} {u : Tree} {n : ℕ} (o : UnaryOperator) → There k u n → fits_node (Unary o) (node_at (tree_nodes t) k) ≡ true → top_operator u ≡ One o
   tops_one {k} {u} o s fit = tops_is (One o) u (sym (ap (fits_node (Unary o)) (node_is s)) ∙ fit)
 
-  tops_two : {k : ℕ} {u : Tree} {n : ℕ} (o : BinaryOperator) → There k u n → fits_node (Binary o) (node_at t.nodes k) ≡ true → top_operator u ≡ Two o
+  tops_two : {k : ℕ} {u : Tree} {n : ℕ} (o : BinaryOperator) → There k u n → fits_node (Binary o) (node_at (tree_nodes t) k) ≡ true → top_operator u ≡ Two o
   tops_two {k} {u} o s fit = tops_is (Two o) u (sym (ap (fits_node (Binary o)) (node_is s)) ∙ fit)
 
-  pub before_one : (k : ℕ) (o : UnaryOperator) → k < t.len → fits_node (Unary o) (node_at t.nodes k) ≡ true → 1 ≤ k
-  before_one k o h fit =
+  -- the parts of a node stand before it
+  pub before_parts : (x : Item) (k : ℕ) → k < length (tree_nodes t) → fits_node x (node_at (tree_nodes t) k) ≡ true → 1 ≤ item_parts x → 1 ≤ k
+  before_parts (Operand a) k h fit some = absurd (omega arith)
+  before_parts (Unary o) k h fit some =
       let there = subtree_there k h in
       let u : Tree = there.0 in
       let n : ℕ = there.1.0 in
       let same = ap node_count (is_one o u (tops_one o there.1.1 fit)) in
       omega (arith, root_is (tree_nodes t) k u n there.1.1, some_node (right_tree u), same)
-
-  pub before_two : (k : ℕ) (o : BinaryOperator) → k < t.len → fits_node (Binary o) (node_at t.nodes k) ≡ true → 1 ≤ k
-  before_two k o h fit =
+  before_parts (Binary o) k h fit some =
       let there = subtree_there k h in
       let u : Tree = there.0 in
       let n : ℕ = there.1.0 in
       let same = ap node_count (is_two o u (tops_two o there.1.1 fit)) in
       omega (arith, root_is (tree_nodes t) k u n there.1.1, some_node (right_tree u), same)
+  before_parts (Constant i) k h fit some = absurd (omega arith)
+  before_parts Variable k h fit some = absurd (omega arith)
 
-  pub parts_inside : (x : Item) (k : ℕ) → k < t.len → fits_node x (node_at t.nodes k) ≡ true → Nodes (part_nodes x k (get_or t.left k 0))
+  pub parts_inside : (x : Item) (k : ℕ) → k < length (tree_nodes t) → fits_node x (node_at (tree_nodes t) k) ≡ true → Nodes (part_nodes x k (get_or t.left k 0))
   parts_inside (Operand a) k h fit = tt
   parts_inside (Unary o) k h fit = (omega arith, tt)
   parts_inside (Binary o) k h fit =
       let there = subtree_there k h in
-      (inside_len (left_part_there o there.1.1 (tops_two o there.1.1 fit)), (omega arith, tt))
+      ((left_part_there o there.1.1 (tops_two o there.1.1 fit)).inside, (omega arith, tt))
   parts_inside (Constant i) k h fit = tt
   parts_inside Variable k h fit = tt
 

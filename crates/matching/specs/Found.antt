@@ -1,12 +1,12 @@
 -- What a match holds.
-use Rattle.std.specs.Prelude.{ℕ, List, take}
+use Rattle.std.specs.Prelude.{ℕ, List}
 use Rattle.matching.specs.declared.matches.Match.{Match}
 use Rattle.matching.specs.declared.matches.OperandAt.{OperandAt}
 
 -- its operands with the nodes that they fall on, from the left
 abbrev pub operands_found : Match → List OperandAt
-operands_found m = take m.operand_count m.operands
+operands_found m = m.operands
 
 -- the payloads of its leaves, from the left
 abbrev pub payloads_found : Match → List ℕ
-payloads_found m = take m.payload_count m.payloads
+payloads_found m = m.payloads

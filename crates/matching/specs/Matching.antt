@@ -1,5 +1,5 @@
 -- What matching a pattern at a node of a checked tree answers.
-use Rattle.std.specs.Prelude.{◌≡◌, ℕ, ◌≤◌, List, map, None, Option, MatchOption}
+use Rattle.std.specs.Prelude.{◌≡◌, ℕ, ◌≤◌, List, map, length, None, Option, MatchOption}
 use Rattle.tree.specs.Trees.{Tree}
 use Rattle.matching.specs.declared.matches.Match.{Match}
 use Rattle.matching.specs.declared.matches.OperandAt.{OperandAt}
@@ -31,5 +31,5 @@ NoMatch p u n = (gs : List Subgoal) (ws : List ℕ) → Matches p u n gs ws → 
 -- the answer for the pattern c at node i: none past the end; else, for the pattern's shape and the subtree with root i, the match
 -- if there is one
 pub record MatchedAt (c : Pattern) (t : CheckedTree) (i : ℕ) (r : Option Match) : Type 0 where
-  pub past_end : t.len ≤ i → r ≡ None
+  pub past_end : length (tree_nodes t) ≤ i → r ≡ None
   pub at_node : (p : Shape) (u : Tree) (n : ℕ) → reading p ≡ items_of c → SubtreeAt (tree_nodes t) i u n → MatchOption r (NoMatch p u n) (λ m. Reports p u n m)

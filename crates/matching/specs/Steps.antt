@@ -8,6 +8,7 @@ use Rattle.pattern.specs.declared.items.Item.{Item}
 use Rattle.pattern.specs.declared.items.Item.TheVariants.{Operand, Unary, Binary, Constant, Variable}
 use Rattle.matching.specs.declared.matches.OperandAt.{OperandAt}
 use Rattle.matching.specs.declared.trees.CheckedTree.{CheckedTree}
+use Rattle.matching.specs.Checked.{tree_nodes}
 use Rattle.pattern.specs.Ranges.{admitted}
 
 -- whether the item can stand at this node
@@ -47,7 +48,7 @@ abbrev pub next_node : List ℕ → ℕ
 next_node ks = slice_index ks 0
 
 abbrev pub node_there : CheckedTree → List ℕ → Node
-node_there t ks = node_at t.nodes (next_node ks)
+node_there t ks = node_at (tree_nodes t) (next_node ks)
 
 abbrev pub parts_there : CheckedTree → Item → List ℕ → List ℕ
 parts_there t x ks = part_nodes x (next_node ks) (slice_index t.left (next_node ks)) ++ drop 1 ks

@@ -1,7 +1,6 @@
 // Trees with the parts of their nodes, and where a pattern matches one.
 #![tactic(auto)]
 
-mod entries;
 pub mod faults;
 pub mod laws;
 pub mod matches;

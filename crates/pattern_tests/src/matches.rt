@@ -1,17 +1,17 @@
 // Where patterns match, and their values.
 use crate::missing::Missing;
-use matching::matches::Match;
+use matching::matches::{Match, OperandAt};
 use matching::trees::CheckedTree;
 use operators::{Binary, Operator, Unary};
 use pattern::intervals::Interval;
 use pattern::items::Item;
-use pattern::patterns::Pattern;
+use pattern::patterns::{MalformedPattern, Pattern};
 use std::test::Fail;
 use tree::nodes::{Node, Statement};
 
 fn node(operator: Operator, payload: u32) -> Node {
     Node {
-        operator: operator.number(),
+        operator: u32::from(operator),
         payload,
     }
 }
@@ -22,48 +22,44 @@ fn tree_of(nodes: &[Node]) -> Result<CheckedTree, Fail> {
     Ok(CheckedTree::new(&statement, &mut memory)?)
 }
 
+fn pattern_of(items: &[Item]) -> Result<Pattern, MalformedPattern> {
+    Pattern::try_from(items)
+}
+
 fn within(low: u32, high: u32) -> Result<Item, Fail> {
     Ok(Item::Constant(Interval::new(low, high).ok_or(Missing)?))
 }
 
+fn at(operand: u8, node: usize) -> OperandAt {
+    OperandAt { operand, node }
+}
+
 // Whether the match is there, with these operands at these nodes and these payloads.
-fn says(found: Option<Match>, operands: &[(u8, usize)], payloads: &[u32]) -> bool {
-    let Some(found) = found else {
-        return false;
-    };
-    if found.operand_count != operands.len() || found.payload_count != payloads.len() {
-        return false;
-    }
-    for i in 0..found.operand_count {
-        if found.operands[i].operand != operands[i].0 || found.operands[i].node != operands[i].1 {
-            return false;
+fn says(found: Option<Match>, operands: &[OperandAt], payloads: &[u32]) -> bool {
+    match found {
+        Some(found) => {
+            found.operands.as_slice() == operands && found.payloads.as_slice() == payloads
         }
+        None => false,
     }
-    for i in 0..found.payload_count {
-        if found.payloads[i] != payloads[i] {
-            return false;
-        }
-    }
-    true
 }
 
 // ADD(1,SHL(0,CNST:0..3)) at ADD(VAR:1,SHL(VAR:2,CNST:n)).
 #[test]
 fn address(rt: HostRuntime) -> Result<(), Fail> {
-    let lea = Pattern::new(&[
+    let lea = pattern_of(&[
         Item::Binary(Binary::Add),
         Item::Operand(1),
         Item::Binary(Binary::Shl),
         Item::Operand(0),
         within(0, 3)?,
-    ])
-    .ok_or(Missing)?;
+    ])?;
     let shift = node(Operator::Two(Binary::Shl), 0);
     let sum = node(Operator::Two(Binary::Add), 0);
     let base = node(Operator::Var, 1);
     let index = node(Operator::Var, 2);
     let scaled = tree_of(&[base, index, node(Operator::Cnst, 3), shift, sum])?;
-    assert!(rt; says(scaled.match_at(&lea, 4), &[(1, 0), (0, 1)], &[3]));
+    assert!(rt; says(scaled.match_at(&lea, 4), &[at(1, 0), at(0, 1)], &[3]));
     assert!(rt; scaled.match_at(&lea, 3).is_none(), "another operator");
     assert!(rt; scaled.match_at(&lea, 0).is_none(), "a leaf");
     assert!(rt; scaled.match_at(&lea, 5).is_none(), "past the end");
@@ -89,7 +85,7 @@ fn address(rt: HostRuntime) -> Result<(), Fail> {
 // ADD(SUB(0,CNST),MUL(1,VAR)), seven items over a tree with a large operand on each side.
 #[test]
 fn seven_items(rt: HostRuntime) -> Result<(), Fail> {
-    let wide = Pattern::new(&[
+    let wide = pattern_of(&[
         Item::Binary(Binary::Add),
         Item::Binary(Binary::Sub),
         Item::Operand(0),
@@ -97,8 +93,7 @@ fn seven_items(rt: HostRuntime) -> Result<(), Fail> {
         Item::Binary(Binary::Mul),
         Item::Operand(1),
         Item::Variable,
-    ])
-    .ok_or(Missing)?;
+    ])?;
     let x = node(Operator::Var, 7);
     let neg = node(Operator::One(Unary::Neg), 0);
     let and = node(Operator::Two(Binary::And), 0);
@@ -120,7 +115,7 @@ fn seven_items(rt: HostRuntime) -> Result<(), Fail> {
         mul,
         add,
     ])?;
-    assert!(rt; says(tree.match_at(&wide, 12), &[(0, 3), (1, 9)], &[9, 5]));
+    assert!(rt; says(tree.match_at(&wide, 12), &[at(0, 3), at(1, 9)], &[9, 5]));
     let mut setting = [0; 64];
     setting[5] = 10;
     assert_eq!(rt; wide.value(&[20, 3], &[9, 5], &setting), 41);
@@ -130,13 +125,13 @@ fn seven_items(rt: HostRuntime) -> Result<(), Fail> {
 #[test]
 fn single_items(rt: HostRuntime) -> Result<(), Fail> {
     let tree = tree_of(&[node(Operator::Var, 7), node(Operator::One(Unary::Not), 0)])?;
-    let name = Pattern::new(&[Item::Operand(4)]).ok_or(Missing)?;
-    assert!(rt; says(tree.match_at(&name, 1), &[(4, 1)], &[]));
-    let variable = Pattern::new(&[Item::Variable]).ok_or(Missing)?;
+    let name = pattern_of(&[Item::Operand(4)])?;
+    assert!(rt; says(tree.match_at(&name, 1), &[at(4, 1)], &[]));
+    let variable = pattern_of(&[Item::Variable])?;
     assert!(rt; says(tree.match_at(&variable, 0), &[], &[7]));
-    let not = Pattern::new(&[Item::Unary(Unary::Not), Item::Operand(2)]).ok_or(Missing)?;
-    assert!(rt; says(tree.match_at(&not, 1), &[(2, 0)], &[]));
-    let neg = Pattern::new(&[Item::Unary(Unary::Neg), Item::Operand(2)]).ok_or(Missing)?;
+    let not = pattern_of(&[Item::Unary(Unary::Not), Item::Operand(2)])?;
+    assert!(rt; says(tree.match_at(&not, 1), &[at(2, 0)], &[]));
+    let neg = pattern_of(&[Item::Unary(Unary::Neg), Item::Operand(2)])?;
     assert!(rt; tree.match_at(&neg, 1).is_none());
     Ok(())
 }

@@ -12,13 +12,13 @@ use std::test::Fail;
 #[test]
 fn names(rt: HostRuntime) -> Result<(), Fail> {
     for text in ["a", "d1", "abcdefgh", "z9999999"] {
-        assert!(rt; ShortName::new(text.as_bytes()).is_some(), "{}", text);
+        assert!(rt; ShortName::try_from(text.as_bytes()).is_ok(), "{}", text);
     }
     for text in ["", "1a", "A", "a_b", "abcdefghi", "a b"] {
-        assert!(rt; ShortName::new(text.as_bytes()).is_none(), "{}", text);
+        assert!(rt; ShortName::try_from(text.as_bytes()).is_err(), "{}", text);
     }
-    let lea = ShortName::new(b"lea").ok_or(Missing)?;
-    let add = ShortName::new(b"leaf").ok_or(Missing)?;
+    let lea = ShortName::try_from(b"lea".as_slice())?;
+    let add = ShortName::try_from(b"leaf".as_slice())?;
     assert!(rt; lea == lea);
     assert!(rt; !(lea == add));
     Ok(())
@@ -26,9 +26,11 @@ fn names(rt: HostRuntime) -> Result<(), Fail> {
 
 #[test]
 fn small_parts(rt: HostRuntime) {
-    assert!(rt; Place::new(b'A').is_some() && Place::new(b'Z').is_some());
+    assert!(rt; Place::try_from(b'A').is_ok() && Place::try_from(b'Z').is_ok());
     assert!(rt;
-        Place::new(b'@').is_none() && Place::new(b'[').is_none() && Place::new(b'a').is_none()
+        Place::try_from(b'@').is_err()
+            && Place::try_from(b'[').is_err()
+            && Place::try_from(b'a').is_err()
     );
     assert!(rt; Figures::new(99, 999).is_some() && Figures::new(0, 0).is_some());
     assert!(rt; Figures::new(100, 0).is_none() && Figures::new(0, 1000).is_none());
@@ -47,6 +49,10 @@ fn ranges(rt: HostRuntime) -> Result<(), Fail> {
     Ok(())
 }
 
+fn formed(items: &[Item]) -> bool {
+    Pattern::try_from(items).is_ok()
+}
+
 // Which lists of items are patterns: whole, and within 7 items, 2 operands and 2 leaves.
 #[test]
 fn patterns(rt: HostRuntime) {
@@ -54,22 +60,16 @@ fn patterns(rt: HostRuntime) {
     let neg = Item::Unary(Unary::Neg);
     let d = Item::Operand(0);
     let v = Item::Variable;
-    assert!(rt; Pattern::new(&[d]).is_some() && Pattern::new(&[v]).is_some());
-    assert!(rt; Pattern::new(&[add, d, neg, d]).is_some());
-    assert!(rt; Pattern::new(&[add, add, d, v, add, d, v]).is_some());
-    assert!(rt; Pattern::new(&[neg, neg, neg, neg, neg, neg, d]).is_some());
+    assert!(rt; formed(&[d]) && formed(&[v]));
+    assert!(rt; formed(&[add, d, neg, d]));
+    assert!(rt; formed(&[add, add, d, v, add, d, v]));
+    assert!(rt; formed(&[neg, neg, neg, neg, neg, neg, d]));
+    assert!(rt; !formed(&[neg, neg, neg, neg, neg, neg, neg, d]), "8 items");
+    assert!(rt; !formed(&[add, d, add, d, d]), "3 operands");
+    assert!(rt; !formed(&[add, v, add, v, v]), "3 leaves");
+    assert!(rt; !formed(&[]) && !formed(&[add, d]), "a part is missing");
     assert!(rt;
-        Pattern::new(&[neg, neg, neg, neg, neg, neg, neg, d]).is_none(),
-        "8 items"
-    );
-    assert!(rt; Pattern::new(&[add, d, add, d, d]).is_none(), "3 operands");
-    assert!(rt; Pattern::new(&[add, v, add, v, v]).is_none(), "3 leaves");
-    assert!(rt;
-        Pattern::new(&[]).is_none() && Pattern::new(&[add, d]).is_none(),
-        "a part is missing"
-    );
-    assert!(rt;
-        Pattern::new(&[d, d]).is_none() && Pattern::new(&[neg, d, v]).is_none(),
+        !formed(&[d, d]) && !formed(&[neg, d, v]),
         "a part too many"
     );
 }

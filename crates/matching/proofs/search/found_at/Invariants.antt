@@ -7,8 +7,11 @@ use Rattle.matching.proofs.Steps.{Nodes}
 use Rattle.matching.proofs.search.found_at.Given as goal
 
 abbrev pub invariant-loop-item : goal.invariant-loop-item
-invariant-loop-item l =
-    (found_from l.tree l.items (l.node ∷ []) [] [] ≡ found_from l.tree (drop l.item-index l.items) (held l.waiting) (operands_found l.found) (payloads_found l.found))
-    × Nodes l.tree (held l.waiting) × (length (held l.waiting) ≤ l.item-index + 1) × (capacity l.waiting ≡ 8)
-    × (length (operands_found l.found) + count_of_operands (drop l.item-index l.items) ≤ 2)
-    × (length (payloads_found l.found) + count_of_leaves (drop l.item-index l.items) ≤ 2)
+invariant-loop-item l = record {
+  same : found_from l.tree l.items (l.node ∷ []) [] [] ≡ found_from l.tree (drop l.item-index l.items) (held l.waiting) (operands_found l.found) (payloads_found l.found);
+  inside : Nodes l.tree (held l.waiting);
+  few : length (held l.waiting) ≤ l.item-index + 1;
+  size : capacity l.waiting ≡ 8;
+  operands_fit : length (operands_found l.found) + count_of_operands (drop l.item-index l.items) ≤ 2;
+  leaves_fit : length (payloads_found l.found) + count_of_leaves (drop l.item-index l.items) ≤ 2;
+}

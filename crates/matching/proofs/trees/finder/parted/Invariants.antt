@@ -5,7 +5,8 @@ use Rattle.matching.proofs.LeftParts.{roots_from}
 use Rattle.matching.proofs.trees.finder.parted.Given as goal
 
 abbrev pub invariant-loop-i : goal.invariant-loop-i
-invariant-loop-i l =
-    (held l.roots ≡ roots_from 0 [] (take l.i l.nodes))
-    × (take l.i l.left ≡ left_parts (take l.i l.nodes))
-    × (length l.nodes ≤ capacity l.roots) × (length l.left ≡ 256)
+invariant-loop-i l = record {
+  roots : held l.roots ≡ roots_from 0 [] (take l.i l.nodes);
+  left : l.left ≡ left_parts (take l.i l.nodes);
+  room : length l.nodes ≤ capacity l.roots;
+}
