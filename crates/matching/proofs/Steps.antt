@@ -3,7 +3,7 @@ use Rattle.std.proofs.Common.{◌≡◌, ℕ, ◌+◌, ◌-◌, ◌<◌, ◌≤�
 use Rattle.std.specs.List.{AllByRecursion}
 use Rattle.std.proofs.lemmas.List.{map-append}
 use Rattle.std.proofs.lemmas.Option.{none-some}
-use Rattle.std.proofs.lemmas.Bool.{cond-true, cond-false}
+use Rattle.std.proofs.lemmas.Bool.{cond-true}
 use Rattle.operators.specs.declared.Unary.{Unary as UnaryOperator}
 use Rattle.operators.specs.declared.Binary.{Binary as BinaryOperator}
 use Rattle.operators.specs.declared.Operator.TheVariants.{Cnst, Var, One, Two}
@@ -149,9 +149,6 @@ module _ (t : CheckedTree) where
     pub step_on : (ks' : List ℕ) (os' : List OperandAt) (ws' : List ℕ) → true ≡ fits_node x (node_at (tree_nodes t) k) → ks' ≡ part_nodes x k (get_or t.left k 0) ++ drop 1 ks → os' ≡ os ++ operand_there x k → ws' ≡ ws ++ payload_there x (node_at (tree_nodes t) k).payload → found_from t (x ∷ xs) ks os ws ≡ found_from t xs ks' os' ws'
     step_on ks' os' ws' fit e f g =
         at_next ∙ cond-true (fits_node x (node_at (tree_nodes t) k)) _ _ (sym fit) ∙ sym (λ i. found_from t xs (e i) (f i) (g i))
-
-    pub stop : false ≡ fits_node x (node_at (tree_nodes t) k) → found_from t (x ∷ xs) ks os ws ≡ None
-    stop misfit = at_next ∙ cond-false (fits_node x (node_at (tree_nodes t) k)) _ _ (sym misfit)
 
   -- the nodes that wait are nodes of the tree
   abbrev pub Nodes : List ℕ → Type 0
