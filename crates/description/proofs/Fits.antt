@@ -1,14 +1,13 @@
 -- Rules that fit some names fit more of them.
-use Rattle.std.proofs.Common.{◌≡◌, ℕ, zero, suc, ◌<◌, ◌≤◌, true, false, ◌&&◌, eqb, ltb, List, [], ◌∷◌, ◌++◌, length, Some, None, Option, sym, refl, ap, ◌∙◌, subst, arith, length-append}
-use Rattle.std.proofs.lemmas.Bool.{and_from, and_parts, ltb-true, lt-ltb, and_left}
+use Rattle.std.proofs.Common.{◌≡◌, ℕ, zero, suc, ◌<◌, ◌≤◌, true, false, ◌&&◌, eqb, ltb, List, [], ◌∷◌, ◌++◌, length, Ok, Err, Some, None, Option, Result, MatchResult, refl, ap, ◌∙◌, subst, arith, length-append}
+use Rattle.std.proofs.lemmas.Bool.{and_from, and_parts, ltb-true, lt-ltb}
+use Rattle.std.specs.List.{list_all}
 use Rattle.pattern.specs.declared.names.ShortName.{ShortName}
 use Rattle.pattern.specs.declared.items.Item.{Item}
 use Rattle.pattern.specs.declared.items.Item.TheVariants.{Operand, Unary, Binary, Constant, Variable}
 use Rattle.pattern.specs.Patterns.{items_of}
 use Rattle.description.specs.declared.rules.Nonterminal.{Nonterminal}
 use Rattle.description.specs.declared.rules.Rule.{Rule}
-use Rattle.description.specs.declared.rules.Emission.{Emission}
-use Rattle.description.specs.declared.rules.Emission.TheVariants.{Rename, Instruction}
 use Rattle.description.specs.Rules.{only_operand}
 use Rattle.description.specs.Names.{place_letter}
 use Rattle.description.specs.Fits.{operand_below, operands_below, chain_at_place, may_emit, rule_fits, all_fit}
@@ -54,9 +53,9 @@ module _ (ns more : List Nonterminal) where
   chain_more a None h k e = e
   chain_more a (Some b) h k e = ap (λ p. eqb p (place_letter (ns ++ more) b)) (place_more ns more a h) ∙ ap (eqb (place_letter ns a)) (place_more ns more b (k b refl)) ∙ e
 
-  emit_more : (r : Rule) (e : Emission) → r.left < length ns → operands_below (length ns) (items_of r.pattern) ≡ true → may_emit ns r e ≡ true → may_emit (ns ++ more) r e ≡ true
-  emit_more r Rename h k e = chain_more r.left (only_operand (items_of r.pattern)) h (λ b o. only_below (length ns) (items_of r.pattern) b k o) e
-  emit_more r (Instruction m) h k e = refl
+  emit_more : (r : Rule) (e : Option ShortName) → r.left < length ns → operands_below (length ns) (items_of r.pattern) ≡ true → may_emit ns r e ≡ true → may_emit (ns ++ more) r e ≡ true
+  emit_more r None h k e = chain_more r.left (only_operand (items_of r.pattern)) h (λ b o. only_below (length ns) (items_of r.pattern) b k o) e
+  emit_more r (Some m) h k e = refl
 
   fits_more : (r : Rule) → rule_fits ns r ≡ true → rule_fits (ns ++ more) r ≡ true
   fits_more r e =
@@ -65,7 +64,7 @@ module _ (ns more : List Nonterminal) where
       let longer : length ns ≤ length (ns ++ more) = omega (arith, length-append ns more) in
       and_from _ _ (below_more r.left _ _ longer first.0)
       (and_from _ _ (operands_more _ _ (items_of r.pattern) longer second.0)
-      (emit_more r r.emission (ltb-true _ _ first.0) second.0 second.1))
+      (emit_more r r.mnemonic (ltb-true _ _ first.0) second.0 second.1))
 
   pub all_more : (rs : List Rule) → all_fit ns rs ≡ true → all_fit (ns ++ more) rs ≡ true
   all_more [] e = refl
@@ -79,18 +78,16 @@ all_push ns (q ∷ rs) r e f =
     let both = and_parts (rule_fits ns q) (all_fit ns rs) e in
     and_from _ _ both.0 (all_push ns rs r both.1 f)
 
-pub fits_from : (ns : List Nonterminal) (r : Rule) {n : ℕ} → length ns ≡ n → r.left < n → operands_below n (items_of r.pattern) ≡ true → may_emit ns r r.emission ≡ true → rule_fits ns r ≡ true
+pub fits_from : (ns : List Nonterminal) (r : Rule) {n : ℕ} → length ns ≡ n → r.left < n → operands_below n (items_of r.pattern) ≡ true → may_emit ns r r.mnemonic ≡ true → rule_fits ns r ≡ true
 fits_from ns r {n} e h o m =
     and_from _ _ (lt-ltb _ _ (omega arith)) (and_from _ _ (ap (λ k. operands_below k (items_of r.pattern)) e ∙ o) m)
 
--- a rule that emits no instruction is a rename
-pub emits_nothing : (ns : List Nonterminal) (r : Rule) (e : Emission) → ((m : ShortName) → e ≡ Instruction m → ⊥) → may_emit ns r e ≡ chain_at_place ns r.left (only_operand (items_of r.pattern))
-emits_nothing ns r Rename f = refl
-emits_nothing ns r (Instruction m) f = absurd (f m refl)
+-- a walk over the items asks each of them
+pub all_below : (n : ℕ) (xs : List Item) → list_all (operand_below n) xs ≡ operands_below n xs
+all_below n [] = refl
+all_below n (x ∷ xs) = ap (λ b. operand_below n x && b) (all_below n xs)
 
--- the first of some items decides, or passes the question on to the others
-pub operands_stop : (n : ℕ) (xs : List Item) (x : Item) (ys : List Item) → xs ≡ x ∷ ys → false ≡ operand_below n x → operands_below n xs ≡ false
-operands_stop n xs x ys e f = ap (operands_below n) e ∙ and_left (operand_below n x) (operands_below n ys) (sym f)
-
-pub operands_pass : (n : ℕ) (xs : List Item) (x : Item) (ys : List Item) → xs ≡ x ∷ ys → true ≡ operand_below n x → operands_below n ys ≡ operands_below n xs
-operands_pass n xs x ys e f = ap (λ b. b && operands_below n ys) f ∙ ap (operands_below n) (sym e)
+-- a row that is not full takes an entry
+pub pushed : {X : Type 0} (r : Result (Unit {0}) X) (n : ℕ) (before after : List X) (x : X) → MatchResult r (λ _. after ≡ before ++ x ∷ []) (λ e. (e ≡ x) × (length before ≡ n) × (after ≡ before)) → (length before ≡ n → ⊥) → after ≡ before ++ x ∷ []
+pushed (Ok u) n before after x gained room = gained
+pushed (Err e) n before after x full room = absurd (room full.1)

@@ -15,7 +15,6 @@ use Rattle.description.specs.Fits.{operand_below, operands_below, chain_at_place
 use Rattle.description.specs.Descriptions.{names_of, rules_of}
 use Rattle.description.specs.Laws.{OperandDeclared, RuleKeeps, AllKeep}
 use Rattle.description.proofs.Names.{distinct_from}
-use Rattle.description.proofs.Counts.{count_of_names, count_of_rules}
 
 operand_declared : (n : ℕ) (x : Item) → operand_below n x ≡ true → OperandDeclared n x
 operand_declared n (Operand a) e = ltb-true a n e
@@ -58,18 +57,18 @@ rules_keep ns (r ∷ rs) e =
 
 pub all_keep : AllKeep
 all_keep d = record {
-  at_most_16 = omega (arith, count_of_names d, d.few_names);
-  at_most_128 = omega (arith, count_of_rules d, d.few_rules);
+  at_most_16 = d.few_names;
+  at_most_128 = d.few_rules;
   distinct = distinct_from (names_of d) d.once;
   rules_keep = rules_keep (names_of d) (rules_of d) d.fitting;
   starts =
       ⊎_elim
-      (λ none. inl (nil_from_length (names_of d) (count_of_names d ∙ eqb-true _ _ none), cond-true _ None (Some d.start) none))
+      (λ none. inl (nil_from_length (names_of d) (eqb-true _ _ none), cond-true _ None (Some d.start) none))
       (λ some. inr (d.start, cond-false _ None (Some d.start) some, started d some))
-      (cases_Bool (eqb d.name_count 0));
+      (cases_Bool (eqb (length (names_of d)) 0));
 }
   where
-    started : (e : Description) → eqb e.name_count 0 ≡ false → e.start < length (names_of e)
+    started : (e : Description) → eqb (length (names_of e)) 0 ≡ false → e.start < length (names_of e)
     started e some =
-        let nonzero = eqb-false e.name_count 0 some in
-        omega (arith, count_of_names e, e.started)
+        let nonzero = eqb-false (length (names_of e)) 0 some in
+        omega (arith, e.started)

@@ -1,5 +1,4 @@
 pub mod Names
-pub mod Counts
-pub mod Chains
 pub mod Fits
 pub mod Keeping
+pub mod Blanks

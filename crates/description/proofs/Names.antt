@@ -1,12 +1,14 @@
 -- Numbers of texts among names, and that no name is declared twice.
-use Rattle.std.proofs.Common.{◌≡◌, ℕ, suc, ◌+◌, ◌<◌, ◌≤◌, true, false, not, eqb, List, [], ◌∷◌, ◌++◌, length, get_or, take, drop, is_some, Some, None, Option, sym, refl, ap, ◌∙◌, subst, ⊎_elim, arith}
+use Rattle.std.proofs.Common.{◌≡◌, ℕ, zero, suc, ◌+◌, ◌<◌, ◌≤◌, true, false, cond, not, ◌&&◌, eqb, nat_eq, List, [], ◌∷◌, ◌++◌, length, is_some, Some, None, Option, sym, refl, ap, ◌∙◌, subst, ⊎_elim, arith, add-one}
 use Rattle.std.proofs.ByRecursion.{All-append}
-use Rattle.std.proofs.lemmas.List.{drop_all, length-take-le}
+use Rattle.std.specs.List.{position_from}
+use Rattle.std.specs.Cmp.Lexicographic.{pointwise}
 use Rattle.std.proofs.lemmas.Bool.{and_from, and_parts, eq-eqb, eqb-true, cond-true, cond-false, cases_Bool, both_ways, not-true}
 use Rattle.description.specs.declared.rules.Nonterminal.{Nonterminal}
-use Rattle.description.proofs.Counts.{rest_at}
+use Rattle.std.specs.Option.{MatchOption, option_map_or}
+use Rattle.description.specs.Descriptions.{ItemAt}
 use Rattle.description.specs.Laws.{Absent, Distinct}
-use Rattle.description.specs.Names.{same_text, text_of, number_from, number_of_text, declared_once}
+use Rattle.description.specs.Names.{same_text, text_of, number_from, number_of_text, declared_once, place_letter}
 
 pub same_text_refl : (xs : List ℕ) → same_text xs xs ≡ true
 same_text_refl [] = refl
@@ -44,22 +46,17 @@ absent_from k t (n ∷ ns) e =
     ))
     (cases_Bool (same_text (text_of n) t))
 
--- at place i of the first n names
-module _ (t : List ℕ) (n i : ℕ) (xs : List Nonterminal) (d : Nonterminal) (h : i < n) (l : n ≤ length xs) where
-  here : drop i (take n xs) ≡ get_or xs i d ∷ drop (i + 1) (take n xs)
-  here = rest_at n i xs d h l
+-- the first name that a walk finds has the number
+pub number_is : (t : List ℕ) (k : ℕ) (ns : List Nonterminal) → position_from (λ n. same_text (text_of n) t) k ns ≡ number_from k t ns
+number_is t k [] = refl
+number_is t k (n ∷ ns) = ap (cond (same_text (text_of n) t) (Some k)) (ap (λ i. position_from (λ m. same_text (text_of m) t) i ns) (add-one k) ∙ number_is t (suc k) ns)
 
-  pub number_here : text_of (get_or xs i d) ≡ t → number_from i t (drop i (take n xs)) ≡ Some i
-  number_here e = ap (number_from i t) here ∙ cond-true (same_text (text_of (get_or xs i d)) t) (Some i) _ (same_from _ _ e)
-
-  pub number_passed : (text_of (get_or xs i d) ≡ t → ⊥) → number_from (i + 1) t (drop (i + 1) (take n xs)) ≡ number_from i t (drop i (take n xs))
-  number_passed f =
-      let next : i + 1 ≡ suc i = omega arith in
-      ap (λ k. number_from k t (drop (i + 1) (take n xs))) next
-      ∙ sym (ap (number_from i t) here ∙ cond-false (same_text (text_of (get_or xs i d)) t) (Some i) _ (other_from _ _ f))
-
-pub number_end : (t : List ℕ) (n i : ℕ) (xs : List Nonterminal) → n ≤ i → n ≤ length xs → number_from i t (drop i (take n xs)) ≡ None
-number_end t n i xs h l = ap (number_from i t) (drop_all i (take n xs) (omega (arith, length-take-le n xs l)))
+-- names are compared by their texts
+pub same_is : (xs ys : List ℕ) → pointwise nat_eq xs ys ≡ same_text xs ys
+same_is [] [] = refl
+same_is [] (y ∷ ys) = refl
+same_is (x ∷ xs) [] = refl
+same_is (x ∷ xs) (y ∷ ys) = ap (λ b. nat_eq x y && b) (same_is xs ys)
 
 pub absent_unless : (t : List ℕ) (ns : List Nonterminal) → is_some (number_of_text t ns) ≡ false → Absent t ns
 absent_unless t ns e = absent_from 0 t ns (none_is (number_of_text t ns) e)
@@ -82,3 +79,18 @@ pub distinct_push : (ns : List Nonterminal) (n : Nonterminal) → Distinct ns �
 distinct_push [] n d a = (tt, tt)
 distinct_push (m ∷ ns) n d a =
     (All-append (λ k. text_of k ≡ text_of m → ⊥) ns (n ∷ []) d.0 (λ e. a.0 (sym e), tt), distinct_push ns n d.1 a.1)
+
+-- where the name of a number lies
+pub letter_found : (ns : List Nonterminal) (i : ℕ) (n : Nonterminal) → ItemAt ns i n → n.place.letter ≡ place_letter ns i
+letter_found [] i n h = absurd (omega (arith, h.within))
+letter_found (m ∷ ns) zero n h = ap (λ (k : Nonterminal). k.place.letter) (sym (h.is m))
+letter_found (m ∷ ns) (suc i) n h = letter_found ns i n (record { within = omega (arith, h.within); is = h.is })
+
+pub letter_none : (ns : List Nonterminal) (i : ℕ) → length ns ≤ i → 0 ≡ place_letter ns i
+letter_none [] i h = refl
+letter_none (n ∷ ns) zero h = absurd (omega arith)
+letter_none (n ∷ ns) (suc i) h = letter_none ns i (omega arith)
+
+pub letter_is : (ns : List Nonterminal) (i : ℕ) (o : Option Nonterminal) → MatchOption o (length ns ≤ i) (λ n. ItemAt ns i n) → option_map_or (λ n. n.place.letter) o 0 ≡ place_letter ns i
+letter_is ns i None h = letter_none ns i h
+letter_is ns i (Some n) h = letter_found ns i n h

@@ -1,6 +1,5 @@
--- What a description stands for: its names and its rules. Two descriptions are the same if these and the start are,
--- whatever their unused places hold.
-use Rattle.std.specs.Prelude.{◌≡◌, ℕ, ◌<◌, ◌≤◌, true, false, cond, List, [], ◌∷◌, ◌++◌, length, take, is_some, Some, None, Option, ◌==◌, slice_index_or}
+-- What a description stands for: its names and its rules. Two descriptions are the same if these and the start are.
+use Rattle.std.specs.Prelude.{◌≡◌, ℕ, ◌<◌, ◌≤◌, true, false, cond, List, [], ◌∷◌, ◌++◌, length, is_some, Some, None, Option, ◌==◌, slice_index_or}
 use Rattle.pattern.specs.Patterns.{items_of}
 use Rattle.description.specs.declared.refusals.NameRefusal.{NameRefusal}
 use Rattle.description.specs.declared.refusals.NameRefusal.TheVariants.{TooMany as TooManyNames, Declared}
@@ -14,15 +13,15 @@ use Rattle.description.specs.declared.descriptions.Description.{Description}
 
 -- the declared names, in order
 abbrev pub names_of : Description → List Nonterminal
-names_of d = take d.name_count d.names
+names_of d = d.names
 
 -- the rules, in order: number 1 first
 abbrev pub rules_of : Description → List Rule
-rules_of d = take d.rule_count d.rules
+rules_of d = d.rules
 
 -- the number of the start name; none where there is no name
 abbrev pub start_of : Description → Option ℕ
-start_of d = cond (d.name_count == 0) None (Some d.start)
+start_of d = cond (length (names_of d) == 0) None (Some d.start)
 
 -- x stands at place i of the list, from 0
 pub record ItemAt {X : Type 0} (xs : List X) (i : ℕ) (x : X) : Type 0 where
@@ -60,4 +59,4 @@ RuleDenied ns rs r OperandUndeclared =
     (length rs < 128) × (r.left < length ns) × (operands_below (length ns) (items_of r.pattern) ≡ false)
 RuleDenied ns rs r NotRename =
     (length rs < 128) × (r.left < length ns) × (operands_below (length ns) (items_of r.pattern) ≡ true)
-    × (may_emit ns r r.emission ≡ false)
+    × (may_emit ns r r.mnemonic ≡ false)

@@ -2,11 +2,10 @@
 use Rattle.std.specs.Prelude.{ℕ, Bool, true, false, ◌&&◌, List, [], ◌∷◌, length, Some, None, Option, ◌==◌, nat_lt}
 use Rattle.pattern.specs.declared.items.Item.{Item}
 use Rattle.pattern.specs.declared.items.Item.TheVariants.{Operand, Unary, Binary, Constant, Variable}
+use Rattle.pattern.specs.declared.names.ShortName.{ShortName}
 use Rattle.pattern.specs.Patterns.{items_of}
 use Rattle.description.specs.declared.rules.Nonterminal.{Nonterminal}
 use Rattle.description.specs.declared.rules.Rule.{Rule}
-use Rattle.description.specs.declared.rules.Emission.{Emission}
-use Rattle.description.specs.declared.rules.Emission.TheVariants.{Rename, Instruction}
 use Rattle.description.specs.Rules.{only_operand}
 use Rattle.description.specs.Names.{place_letter}
 
@@ -28,13 +27,13 @@ chain_at_place ns a None = false
 chain_at_place ns a (Some b) = place_letter ns a == place_letter ns b
 
 -- whether a rule may emit this: nothing, only if it is a chain rule between names of equal PLACE
-abbrev pub may_emit : List Nonterminal → Rule → Emission → Bool
-may_emit ns r Rename = chain_at_place ns r.left (only_operand (items_of r.pattern))
-may_emit ns r (Instruction m) = true
+abbrev pub may_emit : List Nonterminal → Rule → Option ShortName → Bool
+may_emit ns r None = chain_at_place ns r.left (only_operand (items_of r.pattern))
+may_emit ns r (Some m) = true
 
 -- whether a rule has only declared names and is a rename only as it may be
 abbrev pub rule_fits : List Nonterminal → Rule → Bool
-rule_fits ns r = nat_lt r.left (length ns) && (operands_below (length ns) (items_of r.pattern) && may_emit ns r r.emission)
+rule_fits ns r = nat_lt r.left (length ns) && (operands_below (length ns) (items_of r.pattern) && may_emit ns r r.mnemonic)
 
 abbrev pub all_fit : List Nonterminal → List Rule → Bool
 all_fit ns [] = true

@@ -6,7 +6,6 @@ use Rattle.pattern.specs.declared.items.Item.TheVariants.{Operand, Unary, Binary
 use Rattle.pattern.specs.Patterns.{items_of}
 use Rattle.description.specs.declared.rules.Nonterminal.{Nonterminal}
 use Rattle.description.specs.declared.rules.Rule.{Rule}
-use Rattle.description.specs.declared.rules.Emission.TheVariants.{Rename}
 use Rattle.description.specs.declared.descriptions.Description.{Description}
 use Rattle.description.specs.Names.{text_of, place_letter}
 use Rattle.description.specs.Descriptions.{names_of, rules_of, start_of}
@@ -32,7 +31,7 @@ pub record RuleKeeps (ns : List Nonterminal) (r : Rule) : Type 0 where
   pub left_declared : r.left < length ns
   pub operands_declared : AllByRecursion (OperandDeclared (length ns)) (items_of r.pattern)
   -- a rename is a chain rule between names of equal PLACE
-  pub renames : r.emission ≡ Rename → (b : ℕ) × (items_of r.pattern ≡ Operand b ∷ []) × (place_letter ns r.left ≡ place_letter ns b)
+  pub renames : r.mnemonic ≡ None → (b : ℕ) × (items_of r.pattern ≡ Operand b ∷ []) × (place_letter ns r.left ≡ place_letter ns b)
 
 pub record Keeps (d : Description) : Type 0 where
   pub at_most_16 : length (names_of d) ≤ 16

@@ -1,3 +1,4 @@
+pub mod Blanks
 pub mod Rules
 pub mod Names
 pub mod Fits

@@ -4,12 +4,11 @@ use Rattle.operators.specs.declared.Unary.{Unary as OneSided}
 use Rattle.operators.specs.declared.Binary.{Binary as TwoSided}
 use Rattle.pattern.specs.declared.items.Item.{Item}
 use Rattle.pattern.specs.declared.items.Item.TheVariants.{Operand, Unary, Binary, Constant, Variable}
+use Rattle.pattern.specs.declared.names.ShortName.{ShortName}
 use Rattle.pattern.specs.Letters.{letters_of}
 use Rattle.pattern.specs.Patterns.{items_of}
 use Rattle.description.specs.declared.rules.Nonterminal.{Nonterminal}
 use Rattle.description.specs.declared.rules.Rule.{Rule}
-use Rattle.description.specs.declared.rules.Emission.{Emission}
-use Rattle.description.specs.declared.rules.Emission.TheVariants.{Rename, Instruction}
 use Rattle.description.specs.declared.descriptions.Description.{Description}
 use Rattle.description.specs.Descriptions.{names_of, rules_of, start_of}
 
@@ -49,15 +48,15 @@ part_of Variable = variable
 abbrev pub declaration_of : Nonterminal → Declaration
 declaration_of n = record { spelled = letters_of n.name; lies_in = n.place.letter }
 
-abbrev pub emitted : Emission → Option (List ℕ)
-emitted Rename = None
-emitted (Instruction m) = Some (letters_of m)
+abbrev pub emitted : Option ShortName → Option (List ℕ)
+emitted None = None
+emitted (Some m) = Some (letters_of m)
 
 abbrev pub production_of : Rule → Production
 production_of r = record {
   derives = r.left;
   parts = map part_of (items_of r.pattern);
-  emits = emitted r.emission;
+  emits = emitted r.mnemonic;
   in_bytes = r.figures.size;
   in_cycles = r.figures.cycles;
 }

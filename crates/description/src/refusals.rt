@@ -1,6 +1,6 @@
-// Why a description does not take a name or a rule.
+// Why a description does not take a name, a start or a rule.
 
-#[derive(Clone, Copy, Debug, PartialEq)]
+#[derive(Clone, Copy, Debug, PartialEq, Eq)]
 pub enum NameRefusal {
     // There are 16 names already.
     TooMany,
@@ -8,7 +8,11 @@ pub enum NameRefusal {
     Declared,
 }
 
-#[derive(Clone, Copy, Debug, PartialEq)]
+// No name has that number.
+#[derive(Clone, Copy, Debug, PartialEq, Eq)]
+pub struct Undeclared;
+
+#[derive(Clone, Copy, Debug, PartialEq, Eq)]
 pub enum RuleRefusal {
     // There are 128 rules already.
     TooMany,

@@ -1,7 +1,7 @@
 // Building a description, and what it refuses.
 use crate::descriptions::Description;
-use crate::refusals::{NameRefusal, RuleRefusal};
-use crate::rules::{Emission, Nonterminal, Rule};
+use crate::refusals::{NameRefusal, RuleRefusal, Undeclared};
+use crate::rules::{Nonterminal, Rule};
 use pattern::figures::Figures;
 use pattern::items::Item;
 use pattern::names::ShortName;
@@ -10,22 +10,9 @@ use pattern::places::Place;
 use std::test::Fail;
 
 fn nonterminal(text: &[u8], letter: u8) -> Option<Nonterminal> {
-    let name = ShortName::new(text)?;
-    let place = Place::new(letter)?;
+    let name = ShortName::try_from(text).ok()?;
+    let place = Place::try_from(letter).ok()?;
     Some(Nonterminal { name, place })
-}
-
-// A chain rule that emits nothing.
-fn rename(left: u8, from: u8) -> Option<Rule> {
-    let pattern = Pattern::new(&[Item::Operand(from)])?;
-    let figures = Figures::new(0, 0)?;
-    let emission = Emission::Rename;
-    Some(Rule {
-        left,
-        pattern,
-        emission,
-        figures,
-    })
 }
 
 // Whether the description took the name.
@@ -37,12 +24,19 @@ fn declare(
     Some(description.add_name(nonterminal(text, letter)?))
 }
 
+// Whether it took a chain rule that emits nothing.
 fn add(description: &mut Description, left: u8, from: u8) -> Option<Result<(), RuleRefusal>> {
-    Some(description.add_rule(rename(left, from)?))
+    let rule = Rule {
+        left,
+        pattern: Pattern::try_from(&[Item::Operand(from)][..]).ok()?,
+        mnemonic: None,
+        figures: Figures::new(0, 0)?,
+    };
+    Some(description.add_rule(rule))
 }
 
 fn number(description: &Description, text: &[u8]) -> Option<usize> {
-    description.number_of(&ShortName::new(text)?)
+    description.number_of(&ShortName::try_from(text).ok()?)
 }
 
 #[test]
@@ -59,7 +53,8 @@ fn names(rt: HostRuntime) {
     assert_eq!(rt; number(&description, b"c"), Some(2));
     assert_eq!(rt; number(&description, b"q"), None);
     assert_eq!(rt; description.start_number(), Some(0));
-    assert!(rt; description.set_start(15) && !description.set_start(16));
+    assert_eq!(rt; description.set_start(15), Ok(()));
+    assert_eq!(rt; description.set_start(16), Err(Undeclared));
     assert_eq!(rt; description.start_number(), Some(15));
 }
 

@@ -1,23 +1,18 @@
-use Rattle.std.proofs.Common.{sym, ◌∙◌, arith}
-use Rattle.std.proofs.lemmas.Bool.{both_ways}
+use Rattle.std.proofs.Common.{rules, ◌≡◌, nat_eq, ◌∙◌}
+use Rattle.std.proofs.lemmas.Iterator.{YieldsList-from_slice}
+use Rattle.std.proofs.lemmas.Iterator.Search.{position_from_yields_List}
+use Rattle.std.proofs.lemmas.Iterator.Adapters.{position_from-zero}
+use Rattle.std.specs.Cmp.Lexicographic.{pointwise}
+use borrow.Author.Tests.{tests}
 use Rattle.pattern.specs.Letters.{letters_of}
-use Rattle.description.proofs.Names.{number_here, number_passed, number_end}
+use Rattle.description.specs.Descriptions.{names_of}
+use Rattle.description.specs.Names.{same_text, text_of}
+use Rattle.description.proofs.Names.{number_is, same_is}
 use Rattle.description.proofs.descriptions.Description.number_of.Goals as goal
-
-pub returns-then-eq : goal.returns-then-eq
-returns-then-eq c =
-    let d = c.args.self.now in
-    sym (number_here (letters_of c.args.name.now) d.name_count c.loop-i.i d.names _ c.loop-i-test.true (omega arith) (c.eq.ensures.same.0 c.if-eq.true))
-    ∙ c.loop-i.invariant
-
-pub loop-i-preserved : goal.loop-i-preserved
-loop-i-preserved c =
-    let d = c.args.self.now in
-    number_passed (letters_of c.args.name.now) d.name_count c.loop-i.i d.names _ c.loop-i-test.true (omega arith) (λ e. both_ways _ c.if-eq.false (c.eq.ensures.same.1 e))
-    ∙ c.loop-i.invariant
 
 pub returns : goal.returns
 returns c =
-    let d = c.args.self.now in
-    sym (number_end (letters_of c.args.name.now) d.name_count c.loop-i.i d.names c.loop-i-test.false (omega arith))
-    ∙ c.loop-i.invariant
+    let ns = names_of c.args.self.now in
+    let t = letters_of c.args.name.now in
+    position_from_yields_List (λ n. same_text (text_of n) t) _ _ _ c.position.ensures.ran (YieldsList-from_slice ns cc) (λ n b q k. (search (rules, tests), let e : b ≡ pointwise nat_eq (text_of n.now) t = search (rules, tests) in e ∙ same_is (text_of n.now) t))
+    ∙ position_from-zero (λ n. same_text (text_of n) t) ns ∙ number_is t 0 ns
