@@ -2,7 +2,6 @@
 use Rattle.std.specs.Prelude.{[], ◌∷◌, None, refl}
 use Rattle.std.proofs.lemmas.Bool.{leb-true}
 use Rattle.pattern.specs.declared.items.Item.TheVariants.{Variable}
-use Rattle.pattern.specs.declared.places.Place.{Place}
 use Rattle.description.specs.declared.rules.Nonterminal.{Nonterminal}
 use Rattle.description.specs.declared.rules.Rule.{Rule}
 

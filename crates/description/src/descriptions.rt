@@ -15,9 +15,9 @@ pub const RULE_LIMIT: usize = 128;
 // The names and the rules, each by its place, and the number of the start name where there are names.
 #[derive(Clone, Copy)]
 pub struct Description {
-    pub names: Row<Nonterminal, 16>,
+    pub names: Row<Nonterminal, NAME_LIMIT>,
     pub start: usize,
-    pub rules: Row<Rule, 128>,
+    pub rules: Row<Rule, RULE_LIMIT>,
     ghost few_names: { length names ≤ 16 },
     ghost few_rules: { length rules ≤ 128 },
     ghost once: { declared_once names ≡ true },

@@ -3,29 +3,21 @@ ghost use Rattle.lexer.specs.Meanings.{ReadsWhatStands, FaultsWhereNoneStands, F
 ghost use Rattle.lexer.specs.Tilings.{TokensTile};
 
 // The token that is read is the one that stands there: spaces before it, and as long as can be.
-pub fn reads_what_stands() -> bool
+pub fn reads_what_stands()
     ensures { ReadsWhatStands }
-{
-    true
-}
+{}
 
 // A fault is told exactly where no token stands.
-pub fn faults_where_none_stands() -> bool
+pub fn faults_where_none_stands()
     ensures { FaultsWhereNoneStands }
-{
-    true
-}
+{}
 
 // A token is found again from its own place.
-pub fn found_again() -> bool
+pub fn found_again()
     ensures { FoundAgain }
-{
-    true
-}
+{}
 
 // The tokens of a text cover it with nothing but spaces between them.
-pub fn tokens_tile() -> bool
+pub fn tokens_tile()
     ensures { TokensTile }
-{
-    true
-}
+{}

@@ -4,29 +4,21 @@ ghost use Rattle.matching.specs.Parts.{PartsAreRoots};
 ghost use Rattle.matching.specs.Subtrees.{OneSubtreeEach};
 
 // One shape matches one tree in at most one way.
-pub fn matches_once() -> bool
+pub fn matches_once()
     ensures { MatchesOnce }
-{
-    true
-}
+{}
 
 // Where a shape matches a tree, its value over the values of the subtrees is the tree's.
-pub fn match_value() -> bool
+pub fn match_value()
     ensures { MatchValue }
-{
-    true
-}
+{}
 
 // Every node of a granted statement is the root of exactly one subtree.
-pub fn one_subtree_each() -> bool
+pub fn one_subtree_each()
     ensures { OneSubtreeEach }
-{
-    true
-}
+{}
 
 // The left part of a node is the root of its left subtree, and the node before it is the root of the right or only one.
-pub fn parts_are_roots() -> bool
+pub fn parts_are_roots()
     ensures { PartsAreRoots }
-{
-    true
-}
+{}

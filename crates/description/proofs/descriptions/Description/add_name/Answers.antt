@@ -1,4 +1,4 @@
-use Rattle.std.proofs.Common.{◌≡◌, ◌∷◌, [], ◌++◌, length, sym, ap, ◌∙◌, arith, rules, length-append}
+use Rattle.std.proofs.Common.{◌≡◌, ◌∷◌, [], ◌++◌, length, sym, ap, ◌∙◌, arith, length-append}
 use Rattle.description.specs.Names.{declared_once, text_of}
 use Rattle.description.specs.Fits.{all_fit}
 use Rattle.description.specs.Descriptions.{names_of, rules_of}
