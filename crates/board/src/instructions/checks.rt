@@ -22,7 +22,8 @@ fn past_operand<'a>(item: Item, letters: &'a [u8]) -> Option<&'a [u8]>
     }
 }
 
-// Whether the letters are those of the operands among the items.
+// Whether the letters are those of the operands among the items. One `try_fold` for this and the payloads' walk below leaves goals that
+// no lemma of the library closes.
 fn letters_match(items: &[Item], letters: &[u8]) -> bool
     ensures { result ≡ bytes_eq letters.now (operand_list items.now) }
 {
