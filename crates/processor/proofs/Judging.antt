@@ -1,6 +1,5 @@
 -- When an issue and a store are allowed, by the checks in their order.
-use Rattle.std.proofs.Common.{◌≡◌, ℕ, zero, suc, ◌+◌, ◌-◌, ◌<◌, ◌≤◌, Bool, true, false, leb, List, [], ◌∷◌, length, get_or, take, drop, Some, None, Option, sym, refl, ap, ◌∙◌, subst, arith, length-drop}
-use Rattle.std.proofs.lemmas.List.{drop_more, drop_all}
+use Rattle.std.proofs.Common.{◌≡◌, ℕ, zero, suc, ◌+◌, ◌-◌, ◌<◌, ◌≤◌, Bool, true, false, leb, List, [], ◌∷◌, length, take, Some, None, Option, sym, refl, ap, ◌∙◌, subst, arith, length-drop}
 use Rattle.std.specs.Str.{bytes_eq}
 use Rattle.std.proofs.lemmas.Slice.Eq.{bytes_eq-Decides}
 use Rattle.std.proofs.lemmas.Bool.{and_parts, leb-true, both_ways}
@@ -88,9 +87,6 @@ module _ (m : Machine) (w : List ℕ) (free op a b : ℕ) where
       let g = subst (λ y. length w - arity y + 1 ≤ m.deepest) (some_same is e) (h4 (turned n l)) in omega arith
   issue_none_before o is t h2 h3 h4 few j q l (no_room x n _ e f) = let late : 4 < t = turned n l in omega arith
 
-  pub refused_unknown : operation_of m op ≡ None → RefusedBy board_order (IssueFails m w free op a b) 21 (length w)
-  refused_unknown e = record { applies = unknown_opcode refl refl e; none_before = λ j q l f. omega arith }
-
   module _ (o : Operation) (is : operation_of m op ≡ Some o) where
     pub refused_operands : (last_of (arity o) w ≡ operand_letters o → ⊥) → RefusedBy board_order (IssueFails m w free op a b) 22 (length w)
     refused_operands f = record {
@@ -124,47 +120,8 @@ module _ (m : Machine) (w : List ℕ) (free v : ℕ) where
   store_granted h k p (variable_over _ _ f) = omega (arith, h.within)
   store_granted h k p (no_room_to_store _ _ f) = omega (arith, h.room)
 
-  later : {j n t : ℕ} → j ≡ n → turn_of board_order j < t → turn_of board_order n < t
-  later {j} {n} {t} e l = subst (λ x. turn_of board_order x < t) e l
-
-  pub refused_store_operand : (last_of 1 w ≡ m.store_letter ∷ [] → ⊥) → RefusedBy board_order (StoreFails m w free v) 22 (length w)
-  refused_store_operand f = record { applies = operand_lacking refl refl f; none_before = none }
-    where
-      none : (j q : ℕ) → turn_of board_order j < 1 → StoreFails m w free v j q → ⊥
-      none j q l (operand_lacking n _ _) = let late : 1 < 1 = later n l in omega arith
-      none j q l (variable_over n _ _) = let late : 2 < 1 = later n l in omega arith
-      none j q l (no_room_to_store n _ _) = let late : 4 < 1 = later n l in omega arith
-
-  pub refused_store_variable : last_of 1 w ≡ m.store_letter ∷ [] → 63 < v → RefusedBy board_order (StoreFails m w free v) 23 (length w)
-  refused_store_variable h f = record { applies = variable_over refl refl f; none_before = none }
-    where
-      none : (j q : ℕ) → turn_of board_order j < 2 → StoreFails m w free v j q → ⊥
-      none j q l (operand_lacking n _ g) = g h
-      none j q l (variable_over n _ _) = let late : 2 < 2 = later n l in omega arith
-      none j q l (no_room_to_store n _ _) = let late : 4 < 2 = later n l in omega arith
-
-  pub refused_store_room : last_of 1 w ≡ m.store_letter ∷ [] → v ≤ 63 → free < 2 → RefusedBy board_order (StoreFails m w free v) 25 (length w)
-  refused_store_room h r f = record { applies = no_room_to_store refl refl f; none_before = none }
-    where
-      none : (j q : ℕ) → turn_of board_order j < 4 → StoreFails m w free v j q → ⊥
-      none j q l (operand_lacking n _ g) = g h
-      none j q l (variable_over n _ g) = omega arith
-      none j q l (no_room_to_store n _ _) = let late : 4 < 4 = later n l in omega arith
-
 -- a first word and at most one payload, at the front of two places
 pub front_words : (n f a b : ℕ) → n ≤ 1 → take (1 + n) (f ∷ a ∷ []) ≡ f ∷ take n (a ∷ b ∷ [])
 front_words zero f a b h = refl
 front_words (suc zero) f a b h = refl
 front_words (suc (suc n)) f a b h = absurd (omega arith)
-
--- the last one that waits
-pub last_one : (w : List ℕ) (x : ℕ) → (length w ≡ 0 → ⊥) → get_or w (length w - 1) 0 ≡ x → last_of 1 w ≡ x ∷ []
-last_one w x h e =
-    let back : length w - 1 + 1 ≡ length w = omega arith in
-    drop_more w (length w - 1) 0 (omega arith) ∙ (λ i. e i ∷ drop (back i) w) ∙ ap (λ l. x ∷ l) (drop_all (length w) w (omega arith))
-
-pub other_last : (w : List ℕ) (x : ℕ) → (length w ≡ 0 → ⊥) → (get_or w (length w - 1) 0 ≡ x → ⊥) → last_of 1 w ≡ x ∷ [] → ⊥
-other_last w x h f e = f (sym (ap (λ l. get_or l 0 0) (last_one w _ h refl)) ∙ ap (λ l. get_or l 0 0) e)
-
-pub none_last : (w : List ℕ) (x : ℕ) → length w ≡ 0 → last_of 1 w ≡ x ∷ [] → ⊥
-none_last w x h e = omega (arith, ap length e, length-drop (length w - 1) w)

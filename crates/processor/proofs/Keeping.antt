@@ -1,37 +1,26 @@
 -- A board's words and waiting PLACES belong together after every call, and its state changes as the calls promise.
-use Rattle.std.proofs.Common.{◌≡◌, ℕ, ◌+◌, true, eqb, List, [], ◌∷◌, ◌++◌, length, take, Some, None, Option, sym, refl, ap, ◌∙◌, subst, arith, length-set, length-take}
+use Rattle.std.proofs.Common.{◌≡◌, ℕ, ◌+◌, true, eqb, List, [], ◌∷◌, ◌++◌, length, take, Some, sym, refl, ap, ◌∙◌, subst, arith, length-take}
 use Rattle.std.specs.Str.{bytes_eq}
 use Rattle.std.proofs.lemmas.Slice.Eq.{bytes_eq-Decides}
 use Rattle.std.proofs.lemmas.Bool.{and_from, eq-eqb, le-leb}
-use Rattle.board.specs.Machines.{Machine, Operation, operation_of, operand_letters, operation_leaves, arity, leaf_total}
+use Rattle.board.specs.Machines.{Machine, Operation, operand_letters, operation_leaves, arity, leaf_total}
 use Rattle.board.specs.Payloads.{admits_all}
 use Rattle.board.specs.States.{Act, did_issue, did_store, Outcome, end_from}
 use Rattle.board.specs.Acts.{last_of, before_last, Issued, Stored, RunFails, wrong_count}
-use Rattle.board.specs.Laws.{LawfulState}
 use Rattle.processor.specs.Designs.{Design}
-use Rattle.processor.specs.Simulations.{Running, left, refused_at, simulated, from_start, SimulationDenied, of_count, at_instruction, Simulated}
+use Rattle.processor.specs.Simulations.{left, refused_at, SimulationDenied, of_count, at_instruction, Simulated}
 use Rattle.processor.specs.Codes.{issue_taken, taken, waiting_by, waiting_after, all_taken, waiting_after_all, operands_by, issue_words, act_words, encoded, decoded}
 use Rattle.processor.specs.Soundness.{Sound, issue_word, store_word}
 use Rattle.processor.specs.Boards.{outcome_by, state_of, Belongs, IssueAllowed, StoreAllowed}
 use Rattle.processor.specs.Meanings.{meant_by, meant, meant_all, untouched}
-use Rattle.processor.proofs.Lines.{decoded-encoded, encoded_push, taken_push, waiting_push}
-use Rattle.processor.proofs.Runs.{code_runs, starts_empty}
+use Rattle.processor.specs.Lines.{decoded-encoded, encoded_push, taken_push, waiting_push}
+use Rattle.processor.specs.Lawful.{words_run, effect_meant}
 use Rattle.processor.proofs.Spare.{value_spare, admits_spare}
 use Rattle.processor.proofs.Judging.{issue_granted, store_granted}
 
 meant_push : (m : Machine) (x : Outcome) (code : List Act) (a : Act) → meant_all m x (code ++ a ∷ []) ≡ meant m (meant_all m x code) a
 meant_push m x [] a = refl
 meant_push m x (b ∷ rest) a = meant_push m (meant m x b) rest a
-
-ends_by : (ps : List ℕ) (x : Outcome) (o : Option Operation) → length (meant_by ps x o).ends ≡ length x.ends
-ends_by ps x None = refl
-ends_by ps x (Some o) = refl
-
--- a setting keeps its length
-ends_length : (m : Machine) (x : Outcome) (code : List Act) → length (meant_all m x code).ends ≡ length x.ends
-ends_length m x [] = refl
-ends_length m x (did_issue op ps ∷ rest) = ends_length m (meant m x (did_issue op ps)) rest ∙ ends_by ps x (operation_of m op)
-ends_length m x (did_store v ∷ rest) = ends_length m (meant m x (did_store v)) rest ∙ length-set x.ends v _
 
 module _ (d : Design) (sound : Sound d) (ws w : List ℕ) (belongs : Belongs d ws w) where
   -- one act more
@@ -54,36 +43,6 @@ module _ (d : Design) (sound : Sound d) (ws w : List ℕ) (belongs : Belongs d w
       ap (all_taken d.fixed_part []) decoded_more ∙ all,
       ap (waiting_after_all d.fixed_part []) decoded_more ∙ waiting_push d.fixed_part [] (decoded d ws) a ∙ ap (λ w'. waiting_after d.fixed_part w' a) belongs.2,
     )
-
-  -- how the words run
-  pub record WordsRun (σ : List ℕ) : Type 0 where
-    pub at_end : Running
-    pub through : simulated d 0 ws (from_start d σ) ≡ left at_end
-    pub still_held : d.holds w at_end.own_now ≡ true
-    pub means : outcome_by d w (left at_end) ≡ meant_all d.fixed_part (untouched σ) (decoded d ws)
-
-  pub words_run : (σ : List ℕ) → WordsRun σ
-  words_run σ =
-      let r = code_runs d sound [] (decoded d ws) 0 (from_start d σ) belongs.1 sound.starts in
-      record {
-        at_end = r.at_end;
-        through = ap (λ us. simulated d 0 us (from_start d σ)) (sym belongs.0) ∙ r.through;
-        still_held = ap (λ w'. d.holds w' r.at_end.own_now) (sym belongs.2) ∙ r.still_held;
-        means = ap (λ w'. outcome_by d w' (left r.at_end)) (sym belongs.2) ∙ r.means
-            ∙ ap (λ x. meant_all d.fixed_part x (decoded d ws)) (starts_empty d sound σ);
-      }
-
-  -- the effect of the words is what the meanings say
-  pub effect_meant : (free : ℕ) (σ : List ℕ) → (state_of d ws free w).effect σ ≡ meant_all d.fixed_part (untouched σ) (decoded d ws)
-  effect_meant free σ = ap (outcome_by d w) (words_run σ).through ∙ (words_run σ).means
-
-  pub state_lawful : (free : ℕ) → LawfulState (state_of d ws free w)
-  state_lawful free = record {
-    nothing_waits = λ e. sym belongs.2 ∙ ap (waiting_after_all d.fixed_part []) e;
-    ends_as_itself = λ e σ h. ap (λ x. x.ends) (effect_meant free σ) ∙ ap (λ code. (meant_all d.fixed_part (untouched σ) code).ends) e;
-    value_each = λ σ h. ap (λ x. length x.held_values) (ap (outcome_by d w) (words_run σ).through) ∙ sound.value_each w (words_run σ).at_end.own_now (words_run σ).still_held;
-    settings_whole = λ σ h. ap (λ x. length x.ends) (effect_meant free σ) ∙ ends_length d.fixed_part (untouched σ) (decoded d ws) ∙ h;
-  }
 
 module _ (d : Design) (sound : Sound d) (ws w : List ℕ) (belongs : Belongs d ws w) (free : ℕ) where
   -- the effect of one act more
@@ -155,10 +114,6 @@ module _ (d : Design) (sound : Sound d) (ws w : List ℕ) (belongs : Belongs d w
       ends_set = λ σ l. ap (λ x. x.ends) (effect_more (did_store v) store_is_taken free' σ);
       leaves = λ σ l. ap (λ x. x.held_values) (effect_more (did_store v) store_is_taken free' σ);
     }
-
--- a board with no code
-pub belongs_empty : (d : Design) → Belongs d [] []
-belongs_empty d = (refl, refl, refl)
 
 module _ (d : Design) (sound : Sound d) (ws w : List ℕ) (belongs : Belongs d ws w) where
   -- a simulation of the words is refused only for a wrong count of variables

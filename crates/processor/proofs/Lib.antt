@@ -1,10 +1,7 @@
 pub mod Tables
-pub mod Lines
-pub mod Runs
 pub mod Spare
 pub mod Judging
 pub mod Steps
 pub mod Keeping
-pub mod Writing
-pub mod Emitting
-pub mod Emissions
+pub mod Letters
+pub mod Growth

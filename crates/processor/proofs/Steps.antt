@@ -1,5 +1,5 @@
 -- One instruction of a simulation: where it stops, and how it goes on.
-use Rattle.std.proofs.Common.{◌≡◌, ℕ, ◌+◌, ◌-◌, ◌/◌, ◌<◌, Bool, true, false, cond, List, [], ◌∷◌, length, get_or, Some, None, MatchBool, sym, refl, ap, ◌∙◌, arith}
+use Rattle.std.proofs.Common.{◌≡◌, ℕ, ◌+◌, ◌-◌, ◌/◌, ◌<◌, Bool, true, false, cond, List, [], ◌∷◌, length, get_or, Some, Result, Ok, Err, MatchResult, sym, refl, ap, ◌∙◌, arith}
 use Rattle.std.proofs.lemmas.Bool.{cond-true, cond-false, lt-ltb, le-ltb}
 use Rattle.pattern.specs.Shapes.{Leaf}
 use Rattle.board.specs.Payloads.{admits_all}
@@ -10,7 +10,7 @@ use Rattle.board.proofs.Fronts.{front, rest_of}
 use Rattle.processor.specs.Designs.{Design}
 use Rattle.processor.specs.Simulations.{Entry, entry_of, entry_letters, entry_leaves, entry_results, Running, carried_out, fails, goes, step_by, step_of, takes_payload, has_payload, left, refused_at, go_on, simulated, GoesOn, Stops}
 use Rattle.processor.proofs.Judging.{arity_is}
-use Rattle.processor.proofs.Lines.{simulated_line}
+use Rattle.processor.specs.Lines.{simulated_line}
 
 module _ (d : Design) (n f : ℕ) (s : Running) where
   -- a step that fails whatever its payloads are
@@ -21,9 +21,6 @@ module _ (d : Design) (n f : ℕ) (s : Running) where
       both : (b : Bool) → cond b (go_on (step_of d f (p ∷ []) s) n (λ s'. simulated d (n + 2) ws s')) (go_on (step_of d f [] s) n (λ s'. simulated d (n + 1) (p ∷ ws) s')) ≡ refused_at k n
       both true = ap (λ x. go_on x n (λ s'. simulated d (n + 2) ws s')) (h (p ∷ []))
       both false = ap (λ x. go_on x n (λ s'. simulated d (n + 1) (p ∷ ws) s')) (h [])
-
-  pub unknown_stops : (ws : List ℕ) → entry_of d (f / 256) ≡ None → Stops d n (f ∷ ws) s 31 n
-  unknown_stops ws e = fails_anyway 31 ws (λ ps. ap (step_by d f ps s) e)
 
   module _ (e : Entry) (known : entry_of d (f / 256) ≡ Some e) where
     pub misplaced_stops : (ws : List ℕ) → d.misplaced_at f (length (entry_letters d e)) (entry_results e) s.own_now ≡ true → Stops d n (f ∷ ws) s 32 n
@@ -77,9 +74,9 @@ module _ (d : Design) (n f : ℕ) (s s' : Running) where
       }
 
 -- what was not misplaced was carried out
-pub carried : (r : Bool) (P Q R : Type 0) → MatchBool r P (Q × R) → (Q → ⊥) → P
-carried true P Q R h f = h
-carried false P Q R h f = absurd (f h.0)
+pub carried : {V E : Type 0} (r : Result V E) (P Q R : Type 0) → MatchResult r (λ v. P) (λ e. Q × R) → (Q → ⊥) → P
+carried {V} {E} (Ok v) P Q R h f = h
+carried {V} {E} (Err e) P Q R h f = absurd (f h.0)
 
 -- a processor is asked for as many operands as the operation has
 pub asked_at : (d : Design) (i : Instruction) (o : Operation) → Denotes i o → (f : ℕ) (own : List ℕ) {r b : Bool} → r ≡ d.misplaced_at f i.meaning.operands 1 own → r ≡ b → d.misplaced_at f (arity o) 1 own ≡ b

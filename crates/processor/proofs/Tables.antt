@@ -1,10 +1,17 @@
 -- The operation of an opcode is the one that is listed with it.
-use Rattle.std.proofs.Common.{◌≡◌, ℕ, suc, Bool, true, false, not, ◌&&◌, eqb, List, [], ◌∷◌, map, Some, None, sym, refl, ap, ◌∙◌, subst, arith}
+use Rattle.std.proofs.Common.{◌≡◌, ℕ, suc, Bool, true, false, not, ◌&&◌, eqb, List, [], ◌∷◌, map, Option, Some, None, IsSomeAnd, MatchOption, Result, Ok, Err, MatchResult, sym, refl, ap, ◌∙◌, subst, arith}
 use Rattle.std.specs.List.{ContainsAt as Has, AllByRecursion}
+use Rattle.std.specs.Result.{result_ok}
 use Rattle.std.specs.Str.{bytes_eq}
 use Rattle.std.proofs.lemmas.Slice.Eq.{bytes_eq-Decides}
 use Rattle.std.proofs.lemmas.Bool.{eqb-true, eqb-false, eq-eqb, ne_eqb, cond-true, cond-false, and_parts, not-true, both_ways}
-use Rattle.board.specs.Machines.{Operation, first_numbered, operation_among}
+use Rattle.pattern.specs.declared.items.Item.{Item}
+use Rattle.pattern.specs.declared.patterns.Pattern.{Pattern}
+use Rattle.pattern.specs.Items.{pattern_items}
+use Rattle.pattern.specs.Patterns.{items_of}
+use Rattle.board.specs.declared.instructions.Instruction.{Instruction}
+use Rattle.board.specs.Instructions.{Denotes, InstructionNumbered}
+use Rattle.board.specs.Machines.{Machine, Operation, first_numbered, operation_among, operation_of}
 use Rattle.board.specs.Laws.{NoTwoShare}
 
 -- x is among the list
@@ -107,3 +114,18 @@ texts_differ x y e h = both_ways _ e ((bytes_eq-Decides x y).1 h)
 
 pub once_by_text : (os : List Operation) → all_alone bytes_eq texts_differ (λ o. o.letters) os ≡ true → NoTwoShare (λ o. o.letters) os
 once_by_text = no_two_share bytes_eq texts_differ (λ o. o.letters)
+
+-- where the items make a pattern, it is made
+pub pattern_made : (r : Option Pattern) (xs ys : List Item) → MatchOption r (pattern_items xs ≡ false) (λ p. items_of p ≡ xs) → pattern_items xs ≡ true → xs ≡ ys → IsSomeAnd r (λ p. items_of p ≡ ys)
+pattern_made None xs ys h whole is = absurd (both_ways (pattern_items xs) h whole)
+pattern_made (Some p) xs ys h whole is = h ∙ is
+
+-- an instruction with all its parts is that of its opcode
+pub numbered : (m : Machine) (n : ℕ) (o : Operation) → operation_of m n ≡ Some o → (r : Option Instruction) → IsSomeAnd r (λ i. Denotes i o) → InstructionNumbered m n r
+numbered m n o e None h = absurd h
+numbered m n o e (Some i) h = (o, e, h)
+
+-- what was tried is what there is
+pub tried : {O E : Type 0} (found : Option O) (r : Result O E) → MatchResult r (λ o. found ≡ Some o) (λ e. found ≡ None) → found ≡ result_ok r
+tried found (Ok o) h = h
+tried found (Err e) h = h

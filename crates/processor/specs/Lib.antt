@@ -1,8 +1,13 @@
 pub mod Designs
 pub mod Simulations
+pub mod Simulators
 pub mod Codes
 pub mod Soundness
+pub mod Lines
 pub mod Boards
 pub mod Meanings
+pub mod Runs
 pub mod Faults
 pub mod Requests
+pub mod CodedBoards
+pub mod Lawful

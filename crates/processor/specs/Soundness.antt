@@ -38,3 +38,10 @@ pub record Sound (d : Design) : Type 0 where
   pub value_each : (w own : List ℕ) → d.holds w own ≡ true → length (d.values_at w own) ≡ length w
   pub operations_run : (n : ℕ) (o : Operation) (w own : List ℕ) → operation_of d.fixed_part n ≡ Some o → last_of (arity o) w ≡ operand_letters o → length w - arity o + 1 ≤ d.fixed_part.deepest → d.holds w own ≡ true → OperationRuns d n o w own
   pub stores_run : (w own : List ℕ) → last_of 1 w ≡ d.fixed_part.store_letter ∷ [] → d.holds w own ≡ true → StoreRuns d w own
+
+-- every operation's result lies in a PLACE, which is a capital letter
+abbrev pub IsCapital : ℕ → Type 0
+IsCapital a = (65 ≤ a) × (a ≤ 90)
+
+abbrev pub ResultsInPlaces : Design → Type 0
+ResultsInPlaces d = (n : ℕ) (o : Operation) → operation_of d.fixed_part n ≡ Some o → IsCapital o.result_letter

@@ -1,6 +1,14 @@
-// Why a simulator refuses a list of words.
+// Why a simulator refuses a list of words, and a processor an instruction or its number.
 ghost use Rattle.std.specs.Prelude.{◌≡◌};
 ghost use Rattle.processor.specs.Faults.{simulator_number, simulator_place};
+
+// A first word cannot be carried out as it stands.
+#[derive(Clone, Copy, Debug, PartialEq, Eq)]
+pub struct Misplaced;
+
+// No instruction has the number.
+#[derive(Clone, Copy, Debug, PartialEq, Eq)]
+pub struct UnknownNumber;
 
 // All but the first hold the index of the instruction's first word.
 #[derive(Clone, Copy, Debug, PartialEq)]

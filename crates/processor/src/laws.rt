@@ -1,9 +1,19 @@
 // What is true of every processor, for whoever reads the contracts.
+ghost use Rattle.processor.specs.CodedBoards.{EncodedIsRun};
 ghost use Rattle.processor.specs.Meanings.{EncodedRuns};
+
+use crate::Processor;
 
 // Code that a board can take, written as words, is never refused by a simulation, and does what the meanings of its operations say.
 pub fn encoded_runs() -> bool
     ensures { EncodedRuns }
+{
+    true
+}
+
+// What a board has encoded the simulator never refuses with 64 variables, and it leaves the end setting.
+pub fn encoded_is_run<P: Processor>() -> bool
+    ensures { EncodedIsRun P.Processor }
 {
     true
 }

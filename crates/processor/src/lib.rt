@@ -1,25 +1,35 @@
 // Processors: what a board that keeps its code as words is made of, and the simulation of such words, for every processor.
 #![tactic(auto)]
 
-ghost use Rattle.std.specs.Prelude.{◌≡◌, ℕ, true, List, MatchBool, MatchOption};
+ghost use Rattle.std.specs.Prelude.{◌≡◌, ℕ, true, List, MatchResult};
 ghost use Rattle.board.specs.Instructions.{Denotes, InstructionNumbered};
 ghost use Rattle.board.specs.Machines.{Operation, arity};
 ghost use Rattle.processor.specs.Designs.{Design};
 ghost use Rattle.processor.specs.Simulations.{applied, stored_value};
-ghost use Rattle.processor.specs.Soundness.{Sound};
+ghost use Rattle.processor.specs.Soundness.{Sound, ResultsInPlaces};
 
 use board::instructions::Instruction;
+use faults::Misplaced;
 use pattern::places::Place;
 
+pub mod boards;
 pub mod faults;
 pub mod laws;
 pub mod naming;
-pub mod requests;
+mod requests;
 pub mod simulation;
+
+// The opcode of a store, which no instruction has.
+const STORE: u32 = 63;
+
+const LAST_VARIABLE: u32 = 63;
 
 // The instructions of a board and what carries them out. A value holds the processor's own words, such as a stack or registers.
 pub trait Processor: Copy {
     ghost design: { Design };
+
+    // What is encoded runs, since the design keeps the laws of a processor.
+    ghost sound: { Sound design };
 
     // The words that a value holds.
     ghost own: { Self → List ℕ };
@@ -45,19 +55,19 @@ pub trait Processor: Copy {
     fn misplaced(&self, first: u32, operands: usize, results: usize) -> bool
         ensures { result ≡ design.misplaced_at first operands results (own self.now) };
 
-    // Carries out an instruction; false where it is misplaced, and then nothing changes.
+    // Carries out an instruction; nothing changes where it is misplaced.
     fn apply(
         &mut self,
         first: u32,
         instruction: &Instruction,
         payloads: &[u32],
         setting: &[u32],
-    ) -> bool
-        ensures { (o : Operation) → Denotes instruction.now o → MatchBool result (own self.new ≡ applied design first o payloads.now setting.now (own self.old)) ((design.misplaced_at first (arity o) 1 (own self.old) ≡ true) × (own self.new ≡ own self.old)) };
+    ) -> Result<(), Misplaced>
+        ensures { (o : Operation) → Denotes instruction.now o → MatchResult result (λ _. own self.new ≡ applied design first o payloads.now setting.now (own self.old)) (λ _. (design.misplaced_at first (arity o) 1 (own self.old) ≡ true) × (own self.new ≡ own self.old)) };
 
-    // Takes the operand of a store; none where it is misplaced, and then nothing changes.
-    fn take(&mut self, first: u32) -> Option<u32>
-        ensures { MatchOption result ((design.misplaced_at first 1 0 (own self.old) ≡ true) × (own self.new ≡ own self.old)) (λ v. (v ≡ stored_value design first (own self.old)) × (own self.new ≡ design.after_store first (own self.old))) };
+    // Takes the operand of a store; nothing changes where it is misplaced.
+    fn take(&mut self, first: u32) -> Result<u32, Misplaced>
+        ensures { MatchResult result (λ v. (v ≡ stored_value design first (own self.old)) × (own self.new ≡ design.after_store first (own self.old))) (λ _. (design.misplaced_at first 1 0 (own self.old) ≡ true) × (own self.new ≡ own self.old)) };
 
-    ghost sound: { Sound design };
+    ghost result_places: { ResultsInPlaces design };
 }

@@ -1,17 +1,29 @@
 // What a board that keeps its code as words appends to it.
-ghost use Rattle.std.specs.Prelude.{◌≡◌, ◌≤◌, length};
+ghost use Rattle.std.specs.Prelude.{◌≤◌, length};
+
+use rows::Row;
 
 mod judging;
 
-pub use judging::{judge_issue, judge_store};
-
-// The words of one instruction at the front of the array, how many operands wait below its result, and the result's PLACE.
+// What a call finds: the letters of the PLACES that wait, the deepest first, and how many words are free.
 #[derive(Clone, Copy)]
-pub struct Emission {
-    pub words: [u32; 2],
-    pub count: usize,
-    pub below: usize,
-    pub result: u8,
-    ghost sized: { length words ≡ 2 },
-    ghost within: { count ≤ 2 },
+pub(crate) struct Room<'a> {
+    pub(crate) waiting: &'a [u8],
+    pub(crate) free: usize,
+    ghost few: { length waiting.now ≤ 64 },
+}
+
+// An issue: an opcode with two payloads.
+#[derive(Clone, Copy)]
+pub(crate) struct Request {
+    pub(crate) opcode: u32,
+    pub(crate) first: u32,
+    pub(crate) second: u32,
+}
+
+// The words of one instruction, and the letters of the PLACES that wait after it.
+#[derive(Drop)]
+pub(crate) struct Emission {
+    pub(crate) words: Row<u32, 2>,
+    pub(crate) waiting: Row<u8, 64>,
 }

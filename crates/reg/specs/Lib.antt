@@ -3,5 +3,3 @@ pub mod Designs
 pub mod Registers
 pub mod FirstWords
 pub mod Soundness
-pub mod Boards
-pub mod Lawful

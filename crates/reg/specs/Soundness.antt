@@ -9,7 +9,7 @@ use Rattle.board.specs.Machines.{operand_letters, arity, leaf_total}
 use Rattle.board.specs.Acts.{last_of, before_last}
 use Rattle.board.specs.Laws.{LawfulMachine}
 use Rattle.processor.specs.Designs.{store_opcode}
-use Rattle.processor.specs.Soundness.{Sound}
+use Rattle.processor.specs.Soundness.{Sound, ResultsInPlaces}
 use Rattle.processor.proofs.Judging.{enough_wait}
 use Rattle.processor.proofs.Tables.{found_among, every_all, every_found, once_by_number, once_by_text}
 use Rattle.reg.specs.Table.{data_place, reg_operations, reg_machine}
@@ -118,3 +118,10 @@ reg_sound = record {
         rest_read = rest_is store_opcode 1 w own ls refl wait shallow held;
       };
 }
+
+pub reg_result_places : ResultsInPlaces reg_design
+unfolding reg_operations
+reg_result_places n o e =
+    let a = o.result_letter in
+    let both = and_parts (leb 65 a) _ (every_found (λ q. leb 65 q.result_letter && leb q.result_letter 90) reg_operations refl n o e) in
+    (leb-true 65 a both.0, leb-true a 90 both.1)

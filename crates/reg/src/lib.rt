@@ -2,7 +2,5 @@
 #![tactic(auto)]
 
 pub mod boards;
-pub mod laws;
 mod opcodes;
 pub mod register_files;
-pub mod simulator;

@@ -1,10 +1,9 @@
 // The instructions of REG.
-ghost use Rattle.std.specs.Prelude.{◌≡◌, ◌^◌, ◌<◌, true};
-ghost use Rattle.pattern.specs.Items.{pattern_items};
+ghost use Rattle.std.specs.Prelude.{◌≡◌, Some, None, IsSomeAnd, MatchResult};
 ghost use Rattle.pattern.specs.Patterns.{items_of};
 ghost use Rattle.pattern.specs.Shapes.{reading};
 ghost use Rattle.board.specs.Instructions.{Denotes};
-ghost use Rattle.reg.specs.Table.{number_of, opcode_of, mnemonic_of, result_of, meaning_of, operation_for, words_to};
+ghost use Rattle.reg.specs.Table.{number_of, opcode_of, mnemonic_of, result_of, meaning_of, operation_for};
 
 use board::instructions::Instruction;
 use operators::{Binary, Unary};
@@ -13,6 +12,7 @@ use pattern::items::Item;
 use pattern::names::ShortName;
 use pattern::patterns::Pattern;
 use pattern::places::Place;
+use processor::faults::UnknownNumber;
 
 // The PLACE of data registers, from which a store takes its operand.
 pub(crate) const DATA: u8 = b'D';
@@ -36,33 +36,13 @@ pub enum Opcode {
     Adda,
 }
 
-// The words from 0 to `high`.
-fn up_to(high: u32) -> Interval
-    ensures { (word : high < 2 ^ 32) → result ≡ words_to high word }
-{
-    let Some(interval) = Interval::new(0, high) else {
-        unreachable()
-    };
-    interval
-}
+impl TryFrom<u32> for Opcode {
+    type Error = UnknownNumber;
 
-// The pattern of these items.
-fn pattern(items: &[Item]) -> Pattern
-    requires { pattern_items items.now ≡ true }
-    ensures { items_of result ≡ items.now }
-{
-    let Some(pattern) = Pattern::new(items) else {
-        unreachable()
-    };
-    pattern
-}
+    ghost try_from_gives = { λ n r. MatchResult r (λ o. opcode_of n ≡ Some o) (λ _. opcode_of n ≡ None) };
 
-impl Opcode {
-    // The opcode of a number, if there is one.
-    pub(crate) fn from_number(number: u32) -> Option<Opcode>
-        ensures { result ≡ opcode_of number }
-    {
-        Some(match number {
+    fn try_from(number: u32) -> Result<Opcode, UnknownNumber> {
+        Ok(match number {
             1 => Opcode::Ldi,
             2 => Opcode::Ldq,
             3 => Opcode::Ldv,
@@ -84,14 +64,16 @@ impl Opcode {
             19 => Opcode::Movd,
             20 => Opcode::Lea,
             21 => Opcode::Adda,
-            _ => return None,
+            _ => return Err(UnknownNumber),
         })
     }
+}
 
-    fn number(self) -> u32
-        ensures { result ≡ number_of self }
-    {
-        match self {
+impl From<Opcode> for u32 {
+    ghost from_gives = { λ o n. n ≡ number_of o };
+
+    fn from(opcode: Opcode) -> u32 {
+        match opcode {
             Opcode::Ldi => 1,
             Opcode::Ldq => 2,
             Opcode::Ldv => 3,
@@ -115,7 +97,9 @@ impl Opcode {
             Opcode::Adda => 21,
         }
     }
+}
 
+impl Opcode {
     fn mnemonic(self) -> &'static [u8]
         ensures { result.now ≡ mnemonic_of self }
     {
@@ -155,43 +139,49 @@ impl Opcode {
         }
     }
 
-    fn meaning(self) -> Pattern
-        ensures { items_of result ≡ reading (meaning_of self) }
+    fn meaning(self) -> Option<Pattern>
+        ensures { IsSomeAnd result (λ p. items_of p ≡ reading (meaning_of self)) }
     {
         let data = Item::Operand(DATA);
         let address = Item::Operand(ADDRESS);
         let add = Item::Binary(Binary::Add);
         let shl = Item::Binary(Binary::Shl);
         match self {
-            Opcode::Ldi => pattern(&[Item::Constant(up_to(u32::MAX))]),
-            Opcode::Ldq => pattern(&[Item::Constant(up_to(255))]),
-            Opcode::Ldv => pattern(&[Item::Variable]),
-            Opcode::Pair(operator) => pattern(&[Item::Binary(operator), data, data]),
-            Opcode::Single(operator) => pattern(&[Item::Unary(operator), data]),
-            Opcode::Addi => pattern(&[add, data, Item::Constant(up_to(u32::MAX))]),
-            Opcode::Shli => pattern(&[shl, data, Item::Constant(up_to(31))]),
-            Opcode::Mova => pattern(&[data]),
-            Opcode::Movd => pattern(&[address]),
-            Opcode::Lea => pattern(&[add, address, shl, data, Item::Constant(up_to(3))]),
-            Opcode::Adda => pattern(&[add, address, Item::Constant(up_to(255))]),
+            Opcode::Ldi => Pattern::new(&[Item::Constant(Interval::new(0, u32::MAX)?)]),
+            Opcode::Ldq => Pattern::new(&[Item::Constant(Interval::new(0, 255)?)]),
+            Opcode::Ldv => Pattern::new(&[Item::Variable]),
+            Opcode::Pair(operator) => Pattern::new(&[Item::Binary(operator), data, data]),
+            Opcode::Single(operator) => Pattern::new(&[Item::Unary(operator), data]),
+            Opcode::Addi => {
+                let constant = Item::Constant(Interval::new(0, u32::MAX)?);
+                Pattern::new(&[add, data, constant])
+            }
+            Opcode::Shli => {
+                let constant = Item::Constant(Interval::new(0, 31)?);
+                Pattern::new(&[shl, data, constant])
+            }
+            Opcode::Mova => Pattern::new(&[data]),
+            Opcode::Movd => Pattern::new(&[address]),
+            Opcode::Lea => {
+                let constant = Item::Constant(Interval::new(0, 3)?);
+                Pattern::new(&[add, address, shl, data, constant])
+            }
+            Opcode::Adda => {
+                let constant = Item::Constant(Interval::new(0, 255)?);
+                Pattern::new(&[add, address, constant])
+            }
         }
     }
 
-    // The instruction with all its parts.
-    pub(crate) fn instruction(self) -> Instruction
-        ensures { Denotes result (operation_for self) }
+    // The instruction with all its parts; there is one.
+    pub(crate) fn instruction(self) -> Option<Instruction>
+        ensures { IsSomeAnd result (λ i. Denotes i (operation_for self)) }
     {
-        let Some(mnemonic) = ShortName::new(self.mnemonic()) else {
-            unreachable()
-        };
-        let Some(result) = Place::new(self.result()) else {
-            unreachable()
-        };
-        Instruction {
-            opcode: self.number(),
-            mnemonic,
-            result,
-            meaning: self.meaning(),
-        }
+        Some(Instruction {
+            opcode: u32::from(self),
+            mnemonic: ShortName::new(self.mnemonic())?,
+            result: Place::new(self.result())?,
+            meaning: self.meaning()?,
+        })
     }
 }

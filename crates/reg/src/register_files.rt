@@ -1,15 +1,17 @@
 // The processor of REG: its registers, and what carries its instructions out.
-ghost use Rattle.std.specs.Prelude.{◌≡◌, ◌+◌, ◌<◌, ◌≤◌, ◌++◌, length, take, slice_index, slice_set};
+ghost use Rattle.std.specs.Prelude.{◌≡◌, ◌+◌, ◌<◌, ◌≤◌, ◌++◌, length, slice_index, slice_set};
 ghost use Rattle.pattern.specs.Items.{count_of_operands};
 ghost use Rattle.board.specs.Instructions.{operand_list};
 ghost use Rattle.reg.specs.Designs.{slot, registers_from, j_for, i_of, j_of, reg_design};
-ghost use Rattle.reg.specs.Soundness.{reg_sound};
+ghost use Rattle.reg.specs.Soundness.{reg_sound, reg_result_places};
 
 use crate::opcodes::{ADDRESS, DATA, Opcode};
 use board::instructions::Instruction;
 use pattern::items::Item;
 use pattern::places::Place;
 use processor::Processor;
+use processor::faults::Misplaced;
+use rows::Row;
 
 const DEPTH_LIMIT: usize = 8;
 
@@ -75,17 +77,18 @@ impl RegisterProcessor {
         }
     }
 
-    // The registers of the operands among the items, from that number on, at the front of the array.
-    fn operands(&self, items: &[Item], from: usize) -> [u32; 2]
+    // The registers of the operands among the items, from that number on.
+    fn operands(&self, items: &[Item], from: usize) -> Row<u32, 2>
         requires { (count_of_operands items.now ≤ 2) × (from + count_of_operands items.now ≤ 8) }
-        ensures { take (count_of_operands items.now) result ≡ registers_from from (operand_list items.now) (self.now.«data» ++ self.now.address) }
+        ensures { result ≡ registers_from from (operand_list items.now) (self.now.«data» ++ self.now.address) }
     {
-        let mut values = [0; 2];
-        let mut count = 0;
+        let mut values = Row::new();
         for item in items {
             if let Item::Operand(letter) = *item {
-                values[count] = self.register(letter, from + count);
-                count += 1;
+                let value = self.register(letter, from + values.len());
+                let Ok(()) = values.push(value) else {
+                    unreachable()
+                };
             }
         }
         values
@@ -96,9 +99,11 @@ impl RegisterProcessor {
 impl Processor for RegisterProcessor {
     ghost design = { reg_design };
 
+    ghost sound = { reg_sound };
+
     ghost own = { λ p. p.«data» ++ p.address };
 
-    ghost sound = { reg_sound };
+    ghost result_places = { reg_result_places };
 
     fn depth_limit() -> usize {
         DEPTH_LIMIT
@@ -112,10 +117,7 @@ impl Processor for RegisterProcessor {
     }
 
     fn operation(opcode: u32) -> Option<Instruction> {
-        let Some(opcode) = Opcode::from_number(opcode) else {
-            return None;
-        };
-        Some(opcode.instruction())
+        Opcode::try_from(opcode).ok()?.instruction()
     }
 
     fn low_byte(depth: usize, operands: usize) -> u8 {
@@ -133,10 +135,7 @@ impl Processor for RegisterProcessor {
     fn misplaced(&self, first: u32, operands: usize, _: usize) -> bool {
         let result = result_depth(first);
         let last = operand_depth(first);
-        if result > LAST_REGISTER || last > LAST_REGISTER {
-            return true;
-        }
-        last != asked_depth(result, operands)
+        result > LAST_REGISTER || last > LAST_REGISTER || last != asked_depth(result, operands)
     }
 
     fn apply(
@@ -145,25 +144,22 @@ impl Processor for RegisterProcessor {
         instruction: &Instruction,
         payloads: &[u32],
         setting: &[u32],
-    ) -> bool {
-        let count = instruction.meaning.operands;
-        if self.misplaced(first, count, 1) {
-            return false;
+    ) -> Result<(), Misplaced> {
+        let meaning = &instruction.meaning;
+        if self.misplaced(first, meaning.operands, 1) {
+            return Err(Misplaced);
         }
         let depth = result_depth(first);
-        let items = &instruction.meaning.items[0..instruction.meaning.len];
-        let operands = self.operands(items, depth);
-        let value = instruction
-            .meaning
-            .value(&operands[0..count], payloads, setting);
+        let operands = self.operands(&meaning.items[..meaning.len], depth);
+        let value = meaning.value(operands.as_slice(), payloads, setting);
         self.set_register(instruction.result.letter, depth, value);
-        true
+        Ok(())
     }
 
-    fn take(&mut self, first: u32) -> Option<u32> {
+    fn take(&mut self, first: u32) -> Result<u32, Misplaced> {
         if self.misplaced(first, 1, 0) {
-            return None;
+            return Err(Misplaced);
         }
-        Some(self.register(DATA, result_depth(first)))
+        Ok(self.register(DATA, result_depth(first)))
     }
 }

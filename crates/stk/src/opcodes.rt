@@ -1,7 +1,6 @@
 // The instructions of STK.
-ghost use Rattle.std.specs.Prelude.{◌≡◌, ◌≤◌, true};
+ghost use Rattle.std.specs.Prelude.{◌≡◌, Some, None, IsSomeAnd, MatchResult};
 ghost use Rattle.pattern.specs.Patterns.{items_of};
-ghost use Rattle.pattern.specs.Items.{pattern_items};
 ghost use Rattle.pattern.specs.Shapes.{reading};
 ghost use Rattle.board.specs.Instructions.{Denotes};
 ghost use Rattle.stk.specs.Table.{number_of, opcode_of, mnemonic_of, meaning_of, operation_for};
@@ -13,6 +12,7 @@ use pattern::items::Item;
 use pattern::names::ShortName;
 use pattern::patterns::Pattern;
 use pattern::places::Place;
+use processor::faults::UnknownNumber;
 
 const S: u8 = b'S';
 
@@ -28,33 +28,13 @@ pub enum Opcode {
     Madd,
 }
 
-// The words from `low` to `high`.
-fn range(low: u32, high: u32) -> Interval
-    requires { low ≤ high }
-    ensures { (result.low ≡ low) × (result.high ≡ high) }
-{
-    let Some(interval) = Interval::new(low, high) else {
-        unreachable()
-    };
-    interval
-}
+impl TryFrom<u32> for Opcode {
+    type Error = UnknownNumber;
 
-// The pattern of these items.
-fn pattern(items: &[Item]) -> Pattern
-    requires { pattern_items items.now ≡ true }
-    ensures { items_of result ≡ items.now }
-{
-    let Some(pattern) = Pattern::new(items) else {
-        unreachable()
-    };
-    pattern
-}
+    ghost try_from_gives = { λ n r. MatchResult r (λ o. opcode_of n ≡ Some o) (λ _. opcode_of n ≡ None) };
 
-impl Opcode {
-    pub(crate) fn from_number(number: u32) -> Option<Opcode>
-        ensures { result ≡ opcode_of number }
-    {
-        Some(match number {
+    fn try_from(number: u32) -> Result<Opcode, UnknownNumber> {
+        Ok(match number {
             1 => Opcode::Push,
             2 => Opcode::Load,
             3 => Opcode::Pair(Binary::Add),
@@ -72,14 +52,16 @@ impl Opcode {
             15 => Opcode::Inc,
             16 => Opcode::Addv,
             17 => Opcode::Madd,
-            _ => return None,
+            _ => return Err(UnknownNumber),
         })
     }
+}
 
-    fn number(self) -> u32
-        ensures { result ≡ number_of self }
-    {
-        match self {
+impl From<Opcode> for u32 {
+    ghost from_gives = { λ o n. n ≡ number_of o };
+
+    fn from(opcode: Opcode) -> u32 {
+        match opcode {
             Opcode::Push => 1,
             Opcode::Load => 2,
             Opcode::Pair(Binary::Add) => 3,
@@ -99,7 +81,9 @@ impl Opcode {
             Opcode::Madd => 17,
         }
     }
+}
 
+impl Opcode {
     fn mnemonic(self) -> &'static [u8]
         ensures { result.now ≡ mnemonic_of self }
     {
@@ -124,46 +108,40 @@ impl Opcode {
         }
     }
 
-    fn meaning(self) -> Pattern
-        ensures { items_of result ≡ reading (meaning_of self) }
+    fn meaning(self) -> Option<Pattern>
+        ensures { IsSomeAnd result (λ p. items_of p ≡ reading (meaning_of self)) }
     {
         let operand = Item::Operand(S);
         match self {
-            Opcode::Push => pattern(&[Item::Constant(range(0, u32::MAX))]),
-            Opcode::Load => pattern(&[Item::Variable]),
-            Opcode::Pair(operator) => pattern(&[Item::Binary(operator), operand, operand]),
-            Opcode::Single(operator) => pattern(&[Item::Unary(operator), operand]),
-            Opcode::Inc => pattern(&[
+            Opcode::Push => Pattern::new(&[Item::Constant(Interval::new(0, u32::MAX)?)]),
+            Opcode::Load => Pattern::new(&[Item::Variable]),
+            Opcode::Pair(operator) => Pattern::new(&[Item::Binary(operator), operand, operand]),
+            Opcode::Single(operator) => Pattern::new(&[Item::Unary(operator), operand]),
+            Opcode::Inc => Pattern::new(&[
                 Item::Binary(Binary::Add),
                 operand,
-                Item::Constant(range(1, 1)),
+                Item::Constant(Interval::new(1, 1)?),
             ]),
-            Opcode::Addv => pattern(&[Item::Binary(Binary::Add), operand, Item::Variable]),
-            Opcode::Madd => pattern(&[
+            Opcode::Addv => Pattern::new(&[Item::Binary(Binary::Add), operand, Item::Variable]),
+            Opcode::Madd => Pattern::new(&[
                 Item::Binary(Binary::Add),
                 operand,
                 Item::Binary(Binary::Mul),
                 operand,
-                Item::Constant(range(0, u32::MAX)),
+                Item::Constant(Interval::new(0, u32::MAX)?),
             ]),
         }
     }
 
-    // The instruction with all its parts.
-    pub(crate) fn instruction(self) -> Instruction
-        ensures { Denotes result (operation_for self) }
+    // The instruction with all its parts; there is one.
+    pub(crate) fn instruction(self) -> Option<Instruction>
+        ensures { IsSomeAnd result (λ i. Denotes i (operation_for self)) }
     {
-        let Some(mnemonic) = ShortName::new(self.mnemonic()) else {
-            unreachable()
-        };
-        let Some(result) = Place::new(S) else {
-            unreachable()
-        };
-        Instruction {
-            opcode: self.number(),
-            mnemonic,
-            result,
-            meaning: self.meaning(),
-        }
+        Some(Instruction {
+            opcode: u32::from(self),
+            mnemonic: ShortName::new(self.mnemonic())?,
+            result: Place::new(S)?,
+            meaning: self.meaning()?,
+        })
     }
 }

@@ -1,5 +1,5 @@
 -- What a bounded stack holds, and what a push and a pop make of it.
-use Rattle.std.specs.Prelude.{◌≡◌, ℕ, ◌+◌, ◌<◌, List, ◌∷◌, reverse, length, take, drop}
+use Rattle.std.specs.Prelude.{◌≡◌, ℕ, ◌+◌, ◌<◌, ◌≤◌, List, ◌∷◌, ◌++◌, reverse, length, take, drop}
 use Rattle.tree.specs.declared.stack.Stack.{Stack}
 
 module _ {T : Type 0} where
@@ -25,3 +25,9 @@ module _ {T : Type 0} where
   pub record Popped (s : Stack T) (x : T) (after : Stack T) : Type 0 where
     pub entries : held s ≡ x ∷ held after
     pub untouched : beyond after ≡ x ∷ beyond s
+
+  -- the entries xs joined in turn, the last of them the newest, in the first places of the memory beyond, which is otherwise untouched
+  pub record PushedAll (s : Stack T) (xs : List T) (after : Stack T) : Type 0 where
+    pub had_room : length xs ≤ length (beyond s)
+    pub entries : held after ≡ reverse xs ++ held s
+    pub untouched : beyond after ≡ drop (length xs) (beyond s)

@@ -9,3 +9,7 @@ pub struct Stack<'a, T> {
     len: usize,
     ghost within: { len ≤ length memory.now },
 }
+
+// Less memory is left than so many entries need.
+#[derive(Clone, Copy, Debug, PartialEq, Eq)]
+pub struct NoRoom;

@@ -4,15 +4,11 @@ ghost use Rattle.board.specs.Faults.{board_number, board_place};
 ghost use Rattle.processor.specs.Designs.{first_word};
 ghost use Rattle.processor.specs.Requests.{AllowedBy, Emits, EmitsStore, IssueRefused, StoreRefused};
 
-use super::Emission;
-use crate::Processor;
+use super::{Emission, Request, Room};
+use crate::{LAST_VARIABLE, Processor, STORE};
 use board::faults::BoardFault;
 use board::instructions::Instruction;
-
-const LAST_VARIABLE: u32 = 63;
-
-// The opcode of a store.
-const STORE: u32 = 63;
+use rows::Row;
 
 // Whether a result above so many operands would lie beyond the depth limit.
 fn beyond_limit<P: Processor>(below: usize) -> bool
@@ -37,74 +33,76 @@ fn first_word<P: Processor>(opcode: u32, depth: usize, operands: usize) -> u32
     opcode * 256 + u32::from(P::low_byte(depth, operands))
 }
 
-// The instruction of an issue, where operands wait in the PLACES `waiting` and so many words are free, or the first condition that
-// refuses it.
-fn allowed<P: Processor>(
-    waiting: &[u8],
-    free: usize,
-    opcode: u32,
-    first: u32,
-    second: u32,
-) -> Result<Instruction, BoardFault>
-    ensures { MatchResult result (λ i. AllowedBy P.Processor.design waiting.now free opcode first second i) (λ f. IssueRefused P.Processor.design waiting.now free opcode first second (board_number f) (board_place f)) }
-{
-    let depth = waiting.len();
-    let Some(instruction) = P::operation(opcode) else {
-        return Err(BoardFault::UnknownOpcode(depth));
-    };
-    if !instruction.operands_wait(waiting) {
-        return Err(BoardFault::OperandLacking(depth));
+impl Room<'_> {
+    // The instruction of an issue, or the first condition that refuses it.
+    fn allowed<P: Processor>(&self, request: Request) -> Result<Instruction, BoardFault>
+        ensures { MatchResult result (λ i. AllowedBy P.Processor.design self.now.waiting.now self.now.free request.opcode request.first request.second i) (λ f. IssueRefused P.Processor.design self.now.waiting.now self.now.free request.opcode request.first request.second (board_number f) (board_place f)) }
+    {
+        let waiting = self.waiting;
+        let depth = waiting.len();
+        let Some(instruction) = P::operation(request.opcode) else {
+            return Err(BoardFault::UnknownOpcode(depth));
+        };
+        if !instruction.operands_wait(waiting) {
+            return Err(BoardFault::OperandLacking(depth));
+        }
+        if !instruction.admits(&[request.first, request.second]) {
+            return Err(BoardFault::PayloadBarred(depth));
+        }
+        if beyond_limit::<P>(depth - instruction.meaning.operands) {
+            return Err(BoardFault::TooDeep(depth));
+        }
+        if lacks_room(self.free, instruction.meaning.leaves) {
+            return Err(BoardFault::NoRoom(depth));
+        }
+        Ok(instruction)
     }
-    if !instruction.admits(&[first, second]) {
-        return Err(BoardFault::PayloadBarred(depth));
-    }
-    if beyond_limit::<P>(depth - instruction.meaning.operands) {
-        return Err(BoardFault::TooDeep(depth));
-    }
-    if lacks_room(free, instruction.meaning.leaves) {
-        return Err(BoardFault::NoRoom(depth));
-    }
-    Ok(instruction)
-}
 
-// The words of an issue and where its result is to wait, or the first condition that refuses it.
-pub fn judge_issue<P: Processor>(
-    waiting: &[u8],
-    free: usize,
-    opcode: u32,
-    first: u32,
-    second: u32,
-) -> Result<Emission, BoardFault>
-    ensures { MatchResult result (λ e. Emits P.Processor.design waiting.now free opcode first second e) (λ f. IssueRefused P.Processor.design waiting.now free opcode first second (board_number f) (board_place f)) }
-{
-    let instruction = allowed::<P>(waiting, free, opcode, first, second)?;
-    let operands = instruction.meaning.operands;
-    let below = waiting.len() - operands;
-    Ok(Emission {
-        words: [first_word::<P>(opcode, below, operands), first],
-        count: 1 + instruction.meaning.leaves,
-        below,
-        result: instruction.result.letter,
-    })
-}
+    // What an issue appends, or the first condition that refuses it.
+    pub(crate) fn judge_issue<P: Processor>(&self, request: Request) -> Result<Emission, BoardFault>
+        ensures { MatchResult result (λ e. Emits P.Processor.design self.now.waiting.now self.now.free request.opcode request.first request.second e) (λ f. IssueRefused P.Processor.design self.now.waiting.now self.now.free request.opcode request.first request.second (board_number f) (board_place f)) }
+    {
+        let instruction = self.allowed::<P>(request)?;
+        let meaning = &instruction.meaning;
+        let below = self.waiting.len() - meaning.operands;
+        let first = first_word::<P>(request.opcode, below, meaning.operands);
+        let all = [first, request.first];
+        let Ok(words) = Row::try_from(&all[..1 + meaning.leaves]) else {
+            unreachable()
+        };
+        let Ok(mut waiting) = Row::try_from(&self.waiting[..below]) else {
+            unreachable()
+        };
+        let Ok(()) = waiting.push(instruction.result.letter) else {
+            unreachable()
+        };
+        Ok(Emission { words, waiting })
+    }
 
-// The words of a store, or the first condition that refuses it.
-pub fn judge_store<P: Processor>(
-    waiting: &[u8],
-    free: usize,
-    variable: u32,
-) -> Result<[u32; 2], BoardFault>
-    ensures { MatchResult result (λ ws. EmitsStore P.Processor.design waiting.now free variable ws) (λ f. StoreRefused P.Processor.design waiting.now free variable (board_number f) (board_place f)) }
-{
-    let depth = waiting.len();
-    if depth == 0 || waiting[depth - 1] != P::store_place().letter {
-        return Err(BoardFault::OperandLacking(depth));
+    // What a store appends, or the first condition that refuses it.
+    pub(crate) fn judge_store<P: Processor>(&self, variable: u32) -> Result<Emission, BoardFault>
+        ensures { MatchResult result (λ e. EmitsStore P.Processor.design self.now.waiting.now self.now.free variable e) (λ f. StoreRefused P.Processor.design self.now.waiting.now self.now.free variable (board_number f) (board_place f)) }
+    {
+        let [below @ .., last] = self.waiting else {
+            return Err(BoardFault::OperandLacking(0));
+        };
+        let depth = self.waiting.len();
+        if *last != P::store_place().letter {
+            return Err(BoardFault::OperandLacking(depth));
+        }
+        if variable > LAST_VARIABLE {
+            return Err(BoardFault::PayloadBarred(depth));
+        }
+        if self.free < 2 {
+            return Err(BoardFault::NoRoom(depth));
+        }
+        let first = first_word::<P>(STORE, depth - 1, 1);
+        let Ok(words) = Row::try_from(&[first, variable][..]) else {
+            unreachable()
+        };
+        let Ok(waiting) = Row::try_from(below) else {
+            unreachable()
+        };
+        Ok(Emission { words, waiting })
     }
-    if variable > LAST_VARIABLE {
-        return Err(BoardFault::PayloadBarred(depth));
-    }
-    if free < 2 {
-        return Err(BoardFault::NoRoom(depth));
-    }
-    Ok([first_word::<P>(STORE, depth - 1, 1), variable])
 }

@@ -2,13 +2,15 @@
 ghost use Rattle.std.specs.Prelude.{◌≡◌};
 ghost use Rattle.stk.specs.Designs.{stk_design};
 ghost use Rattle.stk.specs.Stacks.{stacked};
-ghost use Rattle.stk.specs.Soundness.{stk_sound};
+ghost use Rattle.stk.specs.Soundness.{stk_sound, stk_result_places};
 
 use super::ValueStack;
 use crate::opcodes::Opcode;
 use board::instructions::Instruction;
 use pattern::places::Place;
 use processor::Processor;
+use processor::faults::Misplaced;
+use rows::Row;
 
 const DEPTH_LIMIT: usize = 64;
 
@@ -16,9 +18,11 @@ const DEPTH_LIMIT: usize = 64;
 impl Processor for ValueStack {
     ghost design = { stk_design };
 
+    ghost sound = { stk_sound };
+
     ghost own = { stacked };
 
-    ghost sound = { stk_sound };
+    ghost result_places = { stk_result_places };
 
     fn depth_limit() -> usize {
         DEPTH_LIMIT
@@ -32,7 +36,7 @@ impl Processor for ValueStack {
     }
 
     fn operation(opcode: u32) -> Option<Instruction> {
-        Some(Opcode::from_number(opcode)?.instruction())
+        Opcode::try_from(opcode).ok()?.instruction()
     }
 
     fn low_byte(_depth: usize, _operands: usize) -> u8 {
@@ -40,14 +44,12 @@ impl Processor for ValueStack {
     }
 
     fn start() -> ValueStack {
-        ValueStack {
-            values: [0; DEPTH_LIMIT],
-            len: 0,
-        }
+        ValueStack { values: Row::new() }
     }
 
     fn misplaced(&self, first: u32, operands: usize, results: usize) -> bool {
-        first % 256 != 0 || self.len < operands || results > DEPTH_LIMIT - (self.len - operands)
+        let len = self.values.len();
+        first % 256 != 0 || len < operands || results > DEPTH_LIMIT - (len - operands)
     }
 
     fn apply(
@@ -56,23 +58,28 @@ impl Processor for ValueStack {
         instruction: &Instruction,
         payloads: &[u32],
         setting: &[u32],
-    ) -> bool {
+    ) -> Result<(), Misplaced> {
         let meaning = &instruction.meaning;
         if self.misplaced(first, meaning.operands, 1) {
-            return false;
+            return Err(Misplaced);
         }
-        let below = self.len - meaning.operands;
-        let value = meaning.value(&self.values[below..self.len], payloads, setting);
-        self.values[below] = value;
-        self.len = below + 1;
-        true
+        let old = self.values;
+        let (below, operands) = old.as_slice().split_at(old.len() - meaning.operands);
+        let value = meaning.value(operands, payloads, setting);
+        let Ok(mut values) = Row::try_from(below) else {
+            unreachable()
+        };
+        let Ok(()) = values.push(value) else {
+            unreachable()
+        };
+        self.values = values;
+        Ok(())
     }
 
-    fn take(&mut self, first: u32) -> Option<u32> {
+    fn take(&mut self, first: u32) -> Result<u32, Misplaced> {
         if self.misplaced(first, 1, 0) {
-            return None;
+            return Err(Misplaced);
         }
-        self.len -= 1;
-        Some(self.values[self.len])
+        self.values.pop().ok_or(Misplaced)
     }
 }

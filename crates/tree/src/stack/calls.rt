@@ -1,8 +1,8 @@
 // What can be done with a stack.
-ghost use Rattle.tree.specs.Stacks.{held, beyond, capacity, Pushed, Popped};
-ghost use Rattle.std.specs.Prelude.{◌≡◌, ◌<◌, [], length, MatchOption, MatchResult};
+ghost use Rattle.tree.specs.Stacks.{held, beyond, capacity, Pushed, Popped, PushedAll};
+ghost use Rattle.std.specs.Prelude.{◌≡◌, ◌<◌, [], reverse, length, MatchOption, MatchResult};
 
-use super::Stack;
+use super::{NoRoom, Stack};
 
 impl<'a, T: Copy> Stack<'a, T> {
     // An empty stack over all of the memory.
@@ -35,5 +35,33 @@ impl<'a, T: Copy> Stack<'a, T> {
         }
         self.len -= 1;
         Some(self.memory[self.len])
+    }
+
+    // The entries in turn, or none of them where too little memory is left.
+    pub fn push_all(&mut self, entries: &[T]) -> Result<(), NoRoom>
+        ensures { MatchResult result (λ _. PushedAll self.old entries.now self.new) (λ _. (length (beyond self.old) < length entries.now) × (self.new ≡ self.old)) }
+    {
+        let room = self.room();
+        if entries.len() > room {
+            return Err(NoRoom);
+        }
+        let end = self.len + entries.len();
+        self.memory[self.len..end].copy_from_slice(entries);
+        self.len = end;
+        Ok(())
+    }
+
+    // The entries, the oldest first.
+    pub fn as_slice(&self) -> &[T]
+        ensures { result.now ≡ reverse (held self.now) }
+    {
+        &self.memory[0..self.len]
+    }
+
+    // How many entries there is memory for beyond these.
+    pub fn room(&self) -> usize
+        ensures { result ≡ length (beyond self.now) }
+    {
+        self.memory.len() - self.len
     }
 }

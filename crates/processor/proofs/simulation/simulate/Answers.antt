@@ -2,7 +2,8 @@ use Rattle.std.proofs.Common.{◌≡◌, ◌+◌, ◌-◌, ◌<◌, [], ◌∷�
 use Rattle.std.proofs.lemmas.List.{nil_from_length}
 use Rattle.std.proofs.lemmas.Result.{err_from_is_err_and}
 use Rattle.board.proofs.Fronts.{front, rest_of}
-use Rattle.processor.specs.Simulations.{running, simulated, at_instruction}
+use Rattle.processor.specs.Simulations.{simulated, at_instruction}
+use Rattle.processor.specs.Simulators.{running_of}
 use Rattle.processor.proofs.simulation.simulate.Goals as goal
 
 pub returns-in_err-rest : goal.returns-in_err-rest
@@ -11,7 +12,7 @@ returns-in_err-rest g c =
     let d = g.P.Processor.design in
     let rest = c.loop-rest.rest.now in
     let some : 0 < length rest = omega (arith, ltb-true, ltb-false) in
-    let s = running c.loop-rest.setting (g.P.Processor.own c.loop-rest.processor) in
+    let s = running_of c.loop-rest.simulator in
     rw (p.1, p.2) (
       refl,
       at_instruction c.if-variables-ne-VARIABLES.false
@@ -25,20 +26,19 @@ loop-rest-preserved g c =
     let rest = c.loop-rest.rest.now in
     let next = c.in_ok-rest.rest.now in
     let some : 0 < length rest = omega (arith, ltb-true, ltb-false) in
-    let s = running c.loop-rest.setting (g.P.Processor.own c.loop-rest.processor) in
-    let s' = running c.step.new.setting (g.P.Processor.own c.step.new.processor) in
+    let s = running_of c.loop-rest.simulator in
+    let s' = running_of c.step.new.self in
     let on = c.in_ok-rest.ensures in
     let whole = ap length (front rest some) in
     let place : length words - length rest + (length (get_or rest 0 0 ∷ rest_of rest) - length next) ≡ length words - length next = omega (arith, whole, on.shorter, c.loop-rest.invariant.1) in (
       c.loop-rest.invariant.0 ∙ ap (λ l. simulated d (length words - length rest) l s) (front rest some) ∙ on.goes_to ∙ ap (λ k. simulated d k next s') place,
       omega (arith, whole, on.shorter, c.loop-rest.invariant.1),
-      omega (arith, c.loop-rest.invariant.2),
     )
 
 pub returns : goal.returns
 returns g c =
     let rest = c.loop-rest.rest.now in
-    let s = running c.loop-rest.setting (g.P.Processor.own c.loop-rest.processor) in
+    let s = running_of c.loop-rest.simulator in
     let nothing : rest ≡ [] = nil_from_length rest (omega (arith, ltb-true, ltb-false)) in
     record {
       counted = c.if-variables-ne-VARIABLES.false;

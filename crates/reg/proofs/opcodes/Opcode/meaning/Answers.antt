@@ -1,40 +1,44 @@
-use Rattle.std.proofs.Common.{ap, arith}
+use Rattle.std.proofs.Common.{[], ◌∷◌, sym, refl, ap, ◌∙◌}
+use Rattle.operators.specs.declared.Binary.TheVariants.{Add, Shl}
+use Rattle.pattern.specs.declared.items.Item.TheVariants.{Operand, Binary, Constant}
 use Rattle.pattern.specs.Shapes.{reading}
-use Rattle.reg.specs.Table.{meaning_of}
+use Rattle.pattern.proofs.Same.{same_interval}
+use Rattle.processor.proofs.Tables.{pattern_made}
+use Rattle.reg.specs.Table.{data_place, address_place, meaning_of}
 use Rattle.reg.proofs.opcodes.Opcode.meaning.Goals as goal
 
-pub returns-in-Ldi : goal.returns-in-Ldi
-returns-in-Ldi c =
-    let meant = ap (λ o. reading (meaning_of o)) c.in-Ldi.is in
-    let range = c.up_to.ensures (omega arith) in
-    cc
+pub returns-in_ok-new-in-Ldi : goal.returns-in_ok-new-in-Ldi
+returns-in_ok-new-in-Ldi c =
+    let range = c.in_ok-new-in-Ldi.ensures in
+    pattern_made c.new-in-Ldi.result _ _ c.new-in-Ldi.ensures refl
+    (ap (λ i. Constant i ∷ []) (same_interval c.in_ok-new-in-Ldi.field-0 _ range.0 range.1) ∙ sym (ap (λ o. reading (meaning_of o)) c.in-Ldi.is))
 
-pub returns-in-Ldq : goal.returns-in-Ldq
-returns-in-Ldq c =
-    let meant = ap (λ o. reading (meaning_of o)) c.in-Ldq.is in
-    let range = c.up_to-in-Ldq.ensures (omega arith) in
-    cc
+pub returns-in_ok-new-in-Ldq : goal.returns-in_ok-new-in-Ldq
+returns-in_ok-new-in-Ldq c =
+    let range = c.in_ok-new-in-Ldq.ensures in
+    pattern_made c.new-in-Ldq-2.result _ _ c.new-in-Ldq-2.ensures refl
+    (ap (λ i. Constant i ∷ []) (same_interval c.in_ok-new-in-Ldq.field-0 _ range.0 range.1) ∙ sym (ap (λ o. reading (meaning_of o)) c.in-Ldq.is))
 
-pub returns-in-Addi : goal.returns-in-Addi
-returns-in-Addi c =
-    let meant = ap (λ o. reading (meaning_of o)) c.in-Addi.is in
-    let range = c.up_to-in-Addi.ensures (omega arith) in
-    cc
+pub returns-in_ok-new-in-Addi : goal.returns-in_ok-new-in-Addi
+returns-in_ok-new-in-Addi c =
+    let range = c.in_ok-new-in-Addi.ensures in
+    pattern_made c.new-in-Addi-2.result _ _ c.new-in-Addi-2.ensures refl
+    (ap (λ i. Binary Add ∷ Operand data_place ∷ Constant i ∷ []) (same_interval c.in_ok-new-in-Addi.field-0 _ range.0 range.1) ∙ sym (ap (λ o. reading (meaning_of o)) c.in-Addi.is))
 
-pub returns-in-Shli : goal.returns-in-Shli
-returns-in-Shli c =
-    let meant = ap (λ o. reading (meaning_of o)) c.in-Shli.is in
-    let range = c.up_to-in-Shli.ensures (omega arith) in
-    cc
+pub returns-in_ok-new-in-Shli : goal.returns-in_ok-new-in-Shli
+returns-in_ok-new-in-Shli c =
+    let range = c.in_ok-new-in-Shli.ensures in
+    pattern_made c.new-in-Shli-2.result _ _ c.new-in-Shli-2.ensures refl
+    (ap (λ i. Binary Shl ∷ Operand data_place ∷ Constant i ∷ []) (same_interval c.in_ok-new-in-Shli.field-0 _ range.0 range.1) ∙ sym (ap (λ o. reading (meaning_of o)) c.in-Shli.is))
 
-pub returns-in-Lea : goal.returns-in-Lea
-returns-in-Lea c =
-    let meant = ap (λ o. reading (meaning_of o)) c.in-Lea.is in
-    let range = c.up_to-in-Lea.ensures (omega arith) in
-    cc
+pub returns-in_ok-new-in-Lea : goal.returns-in_ok-new-in-Lea
+returns-in_ok-new-in-Lea c =
+    let range = c.in_ok-new-in-Lea.ensures in
+    pattern_made c.new-in-Lea-2.result _ _ c.new-in-Lea-2.ensures refl
+    (ap (λ i. Binary Add ∷ Operand address_place ∷ Binary Shl ∷ Operand data_place ∷ Constant i ∷ []) (same_interval c.in_ok-new-in-Lea.field-0 _ range.0 range.1) ∙ sym (ap (λ o. reading (meaning_of o)) c.in-Lea.is))
 
-pub returns-in-Adda : goal.returns-in-Adda
-returns-in-Adda c =
-    let meant = ap (λ o. reading (meaning_of o)) c.in-Adda.is in
-    let range = c.up_to-in-Adda.ensures (omega arith) in
-    cc
+pub returns-in_ok-new-in-Adda : goal.returns-in_ok-new-in-Adda
+returns-in_ok-new-in-Adda c =
+    let range = c.in_ok-new-in-Adda.ensures in
+    pattern_made c.new-in-Adda-2.result _ _ c.new-in-Adda-2.ensures refl
+    (ap (λ i. Binary Add ∷ Operand address_place ∷ Constant i ∷ []) (same_interval c.in_ok-new-in-Adda.field-0 _ range.0 range.1) ∙ sym (ap (λ o. reading (meaning_of o)) c.in-Adda.is))

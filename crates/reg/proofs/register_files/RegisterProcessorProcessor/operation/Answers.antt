@@ -1,14 +1,16 @@
-use Rattle.std.proofs.Common.{sym}
-use Rattle.processor.proofs.Tables.{line_missing, line_found}
-use Rattle.reg.specs.Table.{all_opcodes, operation_for, reg_operations}
+use Rattle.std.proofs.Common.{sym, ◌∙◌}
+use Rattle.processor.proofs.Tables.{line_missing, line_found, numbered, tried}
+use Rattle.reg.specs.Table.{all_opcodes, opcode_of, operation_for, reg_operations, reg_machine}
 use Rattle.reg.proofs.register_files.RegisterProcessorProcessor.operation.Goals as goal
 
-pub returns-in_default : goal.returns-in_default
+pub returns-in_err-ok : goal.returns-in_err-ok
 unfolding reg_operations
-returns-in_default c = line_missing operation_for c.args.opcode all_opcodes (sym c.in_default.ensures)
+returns-in_err-ok c =
+    rw c.from_residual.ensures (line_missing operation_for c.args.opcode all_opcodes (tried (opcode_of c.args.opcode) _ c.try_from.ensures ∙ sym c.ok.ensures.value ∙ c.in_err-ok.was))
 
 pub returns : goal.returns
 unfolding reg_operations
 returns c =
-    let o = c.in-Some.opcode in
-    (operation_for o, line_found operation_for c.args.opcode all_opcodes o (sym c.in-Some.ensures), c.instruction.ensures)
+    let o = c.in_ok-ok.field-0 in
+    let listed = line_found operation_for c.args.opcode all_opcodes o (tried (opcode_of c.args.opcode) _ c.try_from.ensures ∙ sym c.ok.ensures.value ∙ c.in_ok-ok.was) in
+    numbered reg_machine c.args.opcode (operation_for o) listed c.instruction.result c.instruction.ensures

@@ -1,25 +1,29 @@
-use Rattle.std.proofs.Common.{[], ◌∷◌, sym, ap, ◌∙◌}
+use Rattle.std.proofs.Common.{[], ◌∷◌, sym, refl, ap, ◌∙◌}
 use Rattle.operators.specs.declared.Binary.TheVariants.{Add, Mul}
 use Rattle.pattern.specs.declared.items.Item.TheVariants.{Operand, Binary, Constant}
 use Rattle.pattern.specs.Shapes.{reading}
 use Rattle.pattern.proofs.Same.{same_interval}
+use Rattle.processor.proofs.Tables.{pattern_made}
 use Rattle.stk.specs.Table.{every_word, one_alone, stack_place, meaning_of}
 use Rattle.stk.proofs.opcodes.Opcode.meaning.Goals as goal
 
-pub returns-in-Push : goal.returns-in-Push
-returns-in-Push c =
-    c.pattern.ensures
-    ∙ ap (λ i. Constant i ∷ []) (same_interval c.range.result every_word c.range.ensures.0 c.range.ensures.1)
-    ∙ sym (ap (λ o. reading (meaning_of o)) c.in-Push.is)
+pub returns-in_ok-new-in-Push : goal.returns-in_ok-new-in-Push
+returns-in_ok-new-in-Push c =
+    let range = c.in_ok-new-in-Push.ensures in
+    pattern_made c.new-in-Push.result _ _ c.new-in-Push.ensures refl
+    (ap (λ i. Constant i ∷ []) (same_interval c.in_ok-new-in-Push.field-0 every_word range.0 range.1)
+    ∙ sym (ap (λ o. reading (meaning_of o)) c.in-Push.is))
 
-pub returns-in-Inc : goal.returns-in-Inc
-returns-in-Inc c =
-    c.pattern-in-Inc.ensures
-    ∙ ap (λ i. Binary Add ∷ Operand stack_place ∷ Constant i ∷ []) (same_interval c.range-in-Inc.result one_alone c.range-in-Inc.ensures.0 c.range-in-Inc.ensures.1)
-    ∙ sym (ap (λ o. reading (meaning_of o)) c.in-Inc.is)
+pub returns-in_ok-new-in-Inc : goal.returns-in_ok-new-in-Inc
+returns-in_ok-new-in-Inc c =
+    let range = c.in_ok-new-in-Inc.ensures in
+    pattern_made c.new-in-Inc-2.result _ _ c.new-in-Inc-2.ensures refl
+    (ap (λ i. Binary Add ∷ Operand stack_place ∷ Constant i ∷ []) (same_interval c.in_ok-new-in-Inc.field-0 one_alone range.0 range.1)
+    ∙ sym (ap (λ o. reading (meaning_of o)) c.in-Inc.is))
 
-pub returns-in-Madd : goal.returns-in-Madd
-returns-in-Madd c =
-    c.pattern-in-Madd.ensures
-    ∙ ap (λ i. Binary Add ∷ Operand stack_place ∷ Binary Mul ∷ Operand stack_place ∷ Constant i ∷ []) (same_interval c.range-in-Madd.result every_word c.range-in-Madd.ensures.0 c.range-in-Madd.ensures.1)
-    ∙ sym (ap (λ o. reading (meaning_of o)) c.in-Madd.is)
+pub returns-in_ok-new-in-Madd : goal.returns-in_ok-new-in-Madd
+returns-in_ok-new-in-Madd c =
+    let range = c.in_ok-new-in-Madd.ensures in
+    pattern_made c.new-in-Madd-2.result _ _ c.new-in-Madd-2.ensures refl
+    (ap (λ i. Binary Add ∷ Operand stack_place ∷ Binary Mul ∷ Operand stack_place ∷ Constant i ∷ []) (same_interval c.in_ok-new-in-Madd.field-0 every_word range.0 range.1)
+    ∙ sym (ap (λ o. reading (meaning_of o)) c.in-Madd.is))

@@ -1,15 +1,16 @@
 use Rattle.std.proofs.Common.{sym, ◌∙◌}
-use Rattle.processor.proofs.Tables.{line_missing, line_found}
-use Rattle.stk.specs.Table.{all_opcodes, operation_for, stk_operations}
+use Rattle.processor.proofs.Tables.{line_missing, line_found, numbered, tried}
+use Rattle.stk.specs.Table.{all_opcodes, opcode_of, operation_for, stk_operations, stk_machine}
 use Rattle.stk.proofs.stacks.steps.ValueStackProcessor.operation.Goals as goal
 
-pub returns-in_err-from_number : goal.returns-in_err-from_number
+pub returns-in_err-ok : goal.returns-in_err-ok
 unfolding stk_operations
-returns-in_err-from_number c =
-    rw c.from_residual.ensures (line_missing operation_for c.args.opcode all_opcodes (sym c.from_number.ensures ∙ c.in_err-from_number.was))
+returns-in_err-ok c =
+    rw c.from_residual.ensures (line_missing operation_for c.args.opcode all_opcodes (tried (opcode_of c.args.opcode) _ c.try_from.ensures ∙ sym c.ok.ensures.value ∙ c.in_err-ok.was))
 
 pub returns : goal.returns
 unfolding stk_operations
 returns c =
-    let o = c.in_ok-from_number.field-0 in
-    (operation_for o, line_found operation_for c.args.opcode all_opcodes o (sym c.from_number.ensures ∙ c.in_ok-from_number.was), c.instruction.ensures)
+    let o = c.in_ok-ok.field-0 in
+    let listed = line_found operation_for c.args.opcode all_opcodes o (tried (opcode_of c.args.opcode) _ c.try_from.ensures ∙ sym c.ok.ensures.value ∙ c.in_ok-ok.was) in
+    numbered stk_machine c.args.opcode (operation_for o) listed c.instruction.result c.instruction.ensures

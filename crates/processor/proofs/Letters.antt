@@ -1,0 +1,32 @@
+-- The letters of the operands that wait are capitals, so that each makes a PLACE.
+use Rattle.std.proofs.Common.{◌≡◌, ℕ, ◌<◌, ◌≤◌, List, [], ◌∷◌, length, get_or, Some, None, Option, sym, refl, ◌∙◌, subst, MatchOption}
+use Rattle.std.specs.List.{AllByRecursion}
+use Rattle.std.proofs.ByRecursion.{All-take, All-push, All-get_or}
+use Rattle.pattern.specs.declared.places.Place.{Place}
+use Rattle.board.specs.Machines.{Operation, operation_of, arity}
+use Rattle.board.specs.States.{Act, did_issue, did_store}
+use Rattle.board.specs.Acts.{before_last}
+use Rattle.processor.specs.Designs.{Design}
+use Rattle.processor.specs.Codes.{waiting_by, waiting_after_all}
+use Rattle.processor.specs.Soundness.{IsCapital, ResultsInPlaces}
+
+module _ (d : Design) (results : ResultsInPlaces d) where
+  capitals_by : (n : ℕ) (w : List ℕ) → AllByRecursion IsCapital w → (r : Option Operation) → operation_of d.fixed_part n ≡ r → AllByRecursion IsCapital (waiting_by w r)
+  capitals_by n w h None e = h
+  capitals_by n w h (Some o) e = All-push IsCapital (before_last (arity o) w) o.result_letter (All-take IsCapital _ w h) (results n o e)
+
+  capitals_wait : (w : List ℕ) (code : List Act) → AllByRecursion IsCapital w → AllByRecursion IsCapital (waiting_after_all d.fixed_part w code)
+  capitals_wait w [] h = h
+  capitals_wait w (did_issue op ps ∷ rest) h =
+      capitals_wait (waiting_by w (operation_of d.fixed_part op)) rest (capitals_by op w h (operation_of d.fixed_part op) refl)
+  capitals_wait w (did_store v ∷ rest) h = capitals_wait (before_last 1 w) rest (All-take IsCapital _ w h)
+
+  -- w are the letters that wait after some code
+  letter_capital : (w : List ℕ) (code : List Act) → waiting_after_all d.fixed_part [] code ≡ w → (i : ℕ) → i < length w → IsCapital (get_or w i 0)
+  letter_capital w code waits i there =
+      All-get_or IsCapital w i 0 there (subst (AllByRecursion IsCapital) waits (capitals_wait [] code tt))
+
+  -- a is the letter at depth i
+  pub has_place : (w : List ℕ) (code : List Act) → waiting_after_all d.fixed_part [] code ≡ w → (i a : ℕ) → i < length w → a ≡ get_or w i 0 → (r : Option Place) → MatchOption r (IsCapital a → ⊥) (λ p. p.letter ≡ a) → MatchOption r (length w ≤ i) (λ p. (i < length w) × (p.letter ≡ get_or w i 0))
+  has_place w code waits i a there at None none = absurd (none (subst IsCapital (sym at) (letter_capital w code waits i there)))
+  has_place w code waits i a there at (Some p) is = (there, is ∙ at)

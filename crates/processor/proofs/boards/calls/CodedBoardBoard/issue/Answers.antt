@@ -1,0 +1,14 @@
+use Rattle.processor.proofs.Growth.{emits_here, issue_grows, issue_done}
+use Rattle.processor.proofs.boards.calls.CodedBoardBoard.issue.Goals as goal
+
+pub append-requires-clause-belongs : goal.append-requires-clause-belongs
+append-requires-clause-belongs g c =
+    let b = c.args.self.now in
+    let e = c.in_ok-emission.emission in
+    issue_grows b e c.args.opcode c.args.first c.args.second (emits_here b e _ _ c.room.ensures.waiting c.room.ensures.free _ _ _ c.in_ok-emission.ensures)
+
+pub returns-clause-outcome : goal.returns-clause-outcome
+returns-clause-outcome g c =
+    let b = c.args.self.now in
+    let e = c.in_ok-emission.emission in
+    issue_done b e c.args.opcode c.args.first c.args.second (emits_here b e _ _ c.room.ensures.waiting c.room.ensures.free _ _ _ c.in_ok-emission.ensures) c.append.new.self c.append.ensures

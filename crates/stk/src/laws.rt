@@ -1,9 +1,0 @@
-// What is true of every STK board, for whoever reads the contracts.
-ghost use Rattle.stk.specs.Boards.{EncodedIsRun};
-
-// What a board has encoded the simulator never refuses with 64 variables, and it leaves the end setting.
-pub fn encoded_is_run() -> bool
-    ensures { EncodedIsRun }
-{
-    true
-}
