@@ -86,8 +86,3 @@ fits_from ns r {n} e h o m =
 pub all_below : (n : ℕ) (xs : List Item) → list_all (operand_below n) xs ≡ operands_below n xs
 all_below n [] = refl
 all_below n (x ∷ xs) = ap (λ b. operand_below n x && b) (all_below n xs)
-
--- a row that is not full takes an entry
-pub pushed : {X : Type 0} (r : Result (Unit {0}) X) (n : ℕ) (before after : List X) (x : X) → MatchResult r (λ _. after ≡ before ++ x ∷ []) (λ e. (e ≡ x) × (length before ≡ n) × (after ≡ before)) → (length before ≡ n → ⊥) → after ≡ before ++ x ∷ []
-pushed (Ok u) n before after x gained room = gained
-pushed (Err e) n before after x full room = absurd (room full.1)

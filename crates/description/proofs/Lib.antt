@@ -1,4 +1,5 @@
 pub mod Names
+pub mod Rows
 pub mod Fits
 pub mod Keeping
 pub mod Blanks

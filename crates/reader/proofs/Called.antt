@@ -1,7 +1,9 @@
 -- The operator of a text.
-use Rattle.std.proofs.Common.{◌≡◌, ℕ, List, [], ◌∷◌, Some, None, IsUtf8, Option, sym, refl, ap, ◌∙◌, subst, ⊎_elim, MatchOption}
+use Rattle.std.proofs.Common.{◌≡◌, ℕ, false, List, [], ◌∷◌, Some, None, Ok, Err, Bor, IsUtf8, Option, Result, is_ok, sym, refl, ap, ◌∙◌, subst, ⊎_elim, MatchOption, MatchResult}
+use Rattle.std.specs.Result.{result_ok}
+use Rattle.std.proofs.lemmas.Option.{same_Some, none-some}
 use lib.Utf8.{encode}
-use Rattle.std.proofs.lemmas.Bool.{cond-false, cases_Bool}
+use Rattle.std.proofs.lemmas.Bool.{cond-false, cases_Bool, false≢true}
 use Rattle.operators.specs.declared.Unary.TheVariants.{Neg, Not}
 use Rattle.operators.specs.declared.Binary.TheVariants.{Add, Sub, Mul, And, Or, Xor, Shl, Shr, Sar, Lt}
 use Rattle.operators.specs.declared.Operator.{Operator}
@@ -51,9 +53,21 @@ none_among (o ∷ os) t f =
     (λ s. cond-false (same_text (operator_name o) t) (Some o) (called_among os t) s ∙ none_among os t f)
     (cases_Bool (same_text (operator_name o) t))
 
-pub called_is : (t : List ℕ) (r : Option Operator) → MatchOption r ((o : Operator) → operator_name o ≡ t → ⊥) (λ o. operator_name o ≡ t) → r ≡ operator_called t
+called_is : (t : List ℕ) (o : Option Operator) → MatchOption o ((p : Operator) → operator_name p ≡ t → ⊥) (λ p. operator_name p ≡ t) → o ≡ operator_called t
 called_is t None f = sym (none_among all_operators t f)
 called_is t (Some o) e = sym (called_by_name o) ∙ ap operator_called e
 
-pub no_text : (t : List ℕ) → (IsUtf8 t → ⊥) → None ≡ operator_called t
-no_text t f = called_is t None (λ o e. f (subst IsUtf8 e (name_is_text o)))
+-- the answer of reading a name
+pub parsed_is : {E : Type 0} (t : List ℕ) (r : Result Operator E) → MatchResult r (λ o. operator_name o ≡ t) (λ _. (o : Operator) → operator_name o ≡ t → ⊥) → result_ok r ≡ operator_called t
+parsed_is t (Ok o) e = called_is t (Some o) e
+parsed_is t (Err x) f = called_is t None f
+
+-- bytes that are no text name no operator
+pub no_text : {T E : Type 0} (P : T → Type 0) (Q : E → Type 0) (t : List ℕ) (r : Result T E) → MatchResult r P (λ e. (IsUtf8 t → ⊥) × Q e) → false ≡ is_ok r → None ≡ operator_called t
+no_text P Q t (Ok s) m e = absurd (false≢true e)
+no_text P Q t (Err x) m e = called_is t None (λ o named. m.0 (subst IsUtf8 named (name_is_text o)))
+
+-- the text that bytes are
+pub text_is : {E : Type 0} (P : Type 0) (Q : E → Type 0) (t : List ℕ) (r : Result (Bor (List ℕ)) E) (s : Bor (List ℕ)) → MatchResult r (λ s. (s.now ≡ t) × P) Q → Some s ≡ result_ok r → s.now ≡ t
+text_is P Q t (Ok u) s m e = ap (λ (b : Bor (List ℕ)). b.now) (same_Some s u e) ∙ m.0
+text_is P Q t (Err x) s m e = absurd (none-some s (sym e))

@@ -1,26 +1,17 @@
 -- The declared names and the rules of a description, as the reader sees them.
 use Rattle.std.proofs.Common.{◌≡◌, ℕ, suc, ◌+◌, ◌<◌, cond, List, [], ◌∷◌, map, length, is_some, Some, None, Option, sym, refl, ap, ◌∙◌, ⊎_elim, arith}
-use Rattle.std.proofs.lemmas.List.{length-map, map_push}
+use Rattle.std.proofs.lemmas.List.{length-map}
 use Rattle.std.proofs.lemmas.Bool.{cond-true, cond-false, cases_Bool, both_ways}
-use Rattle.description.specs.declared.descriptions.Description.{Description}
 use Rattle.description.specs.declared.rules.Nonterminal.{Nonterminal}
 use Rattle.pattern.specs.Letters.{letters_of}
 use Rattle.description.specs.declared.refusals.NameRefusal.{NameRefusal}
 use Rattle.description.specs.declared.refusals.NameRefusal.TheVariants.{TooMany as TooManyNames, Declared}
 use Rattle.description.specs.Names.{same_text, text_of, number_from}
-use Rattle.description.specs.Descriptions.{names_of, rules_of, NameAdded, NameDenied}
-use Rattle.description.specs.Outlines.{declaration_of, production_of}
-use Rattle.description.proofs.Counts.{count_of_names, count_of_rules}
+use Rattle.description.specs.Descriptions.{names_of, NameDenied}
+use Rattle.description.specs.Outlines.{declaration_of}
 use Rattle.reader.specs.declared.progress.Progress.{Progress}
 use Rattle.reader.specs.Words.{declared_from}
-use Rattle.reader.specs.Reading.{declaration_end, name_place, name_declared}
-use Rattle.reader.specs.States.{declarations_of, productions_of, stands}
-
-pub names_count : (g : Progress) → length (declarations_of g) ≡ g.description.name_count
-names_count g = length-map (names_of g.description) declaration_of ∙ count_of_names g.description
-
-pub rules_count : (g : Progress) → length (productions_of g) ≡ g.description.rule_count
-rules_count g = length-map (rules_of g.description) production_of ∙ count_of_rules g.description
+use Rattle.reader.specs.States.{declarations_of}
 
 pub declared_is : (k : ℕ) (t : List ℕ) (ns : List Nonterminal) → declared_from k t (map declaration_of ns) ≡ number_from k t ns
 declared_is k t [] = refl
@@ -49,18 +40,7 @@ module _ (g : Progress) (t letters : List ℕ) (same : letters ≡ t) where
       omega (arith, number_below 0 letters (names_of g.description) i (sym e), length-map (names_of g.description) declaration_of)
 
   pub found_small : (i : ℕ) → Some i ≡ number_from 0 letters (names_of g.description) → i < 16
-  found_small i e = omega (arith, found_below i e, names_count g, g.description.few_names)
-
--- a description with one name more
-pub name_gained : (g : Progress) (n : Nonterminal) (after : Description) (t : List ℕ) → NameAdded g.description n after → stands (record { description = after; line_start = g.line_start }) declaration_end ≡ name_declared (stands g (name_place t)) (letters_of n.name) n.place.letter
-name_gained g n after t h =
-    let names = ap (map declaration_of) h.names_gained ∙ map_push declaration_of (names_of g.description) n in
-    let rules = ap (map production_of) h.rules_kept in
-    λ i. record {
-      outline = record { declarations = names i; begins = None; productions = rules i };
-      line = g.line_start;
-      awaits = declaration_end;
-    }
+  found_small i e = omega (arith, found_below i e, length-map (names_of g.description) declaration_of, g.description.few_names)
 
 -- a name that is not there and for which there is room is not refused
 pub name_fits : (g : Progress) (n : Nonterminal) (e : NameRefusal) → length (declarations_of g) < 16 → declared_from 0 (letters_of n.name) (declarations_of g) ≡ None → NameDenied (names_of g.description) n e → ⊥

@@ -1,11 +1,10 @@
 pub mod Parts
-pub mod Spelling
+pub mod Rowed
 pub mod Declared
 pub mod Called
 pub mod Ruled
 pub mod Sounds
 pub mod Turns
-pub mod Headers
 pub mod TokenKinds
 pub mod Places
 pub mod Walks

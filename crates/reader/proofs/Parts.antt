@@ -1,8 +1,10 @@
 -- The items and the brackets of a rule while it is read.
-use Rattle.std.proofs.Common.{◌≡◌, ℕ, ◌+◌, ◌-◌, ◌<◌, ◌≤◌, true, false, leb, List, [], ◌∷◌, ◌++◌, map, length, take, set, sym, refl, ap, ◌∙◌, arith}
-use Rattle.std.proofs.lemmas.List.{length_push, length-map, length-take-le, take_more_set, map_push, take_at, take-map, take-take}
+use Rattle.std.proofs.Common.{◌≡◌, ℕ, ◌+◌, ◌-◌, ◌<◌, ◌≤◌, true, false, leb, List, [], ◌∷◌, ◌++◌, length, take, sym, refl, ap, ◌∙◌, arith}
+use Rattle.std.proofs.lemmas.List.{length_push, take_at}
 use Rattle.std.proofs.lemmas.Bool.{and_from, and_left, and_right, le-leb, lt-leb}
 use Rattle.pattern.specs.declared.items.Item.{Item}
+use Rattle.pattern.specs.declared.items.Item.TheVariants.{Operand, Unary, Binary, Constant, Variable}
+use Rattle.pattern.specs.Items.{operands_in, leaves_in}
 use Rattle.description.specs.Outlines.{Part, operand, one_sided, two_sided, constant, variable, part_of}
 use Rattle.reader.specs.Reading.{operands_among, leaves_among, within_limits, last_replaced}
 use Rattle.reader.specs.States.{EndsInConstant}
@@ -39,14 +41,20 @@ leaves_few (two_sided o ∷ xs) = omega (arith, leaves_few xs)
 leaves_few (constant l h ∷ xs) = omega (arith, leaves_few xs)
 leaves_few (variable ∷ xs) = omega (arith, leaves_few xs)
 
--- the first n items, as parts
-module _ (n : ℕ) (items : List Item) (h : n ≤ length items) where
-  pub count_is : length (map part_of (take n items)) ≡ n
-  count_is = length-map (take n items) part_of ∙ length-take-le n items h
+-- an item counts as its part
+pub operand_is : (x : Item) → operands_in x ≡ operands_among (part_of x ∷ [])
+operand_is (Operand a) = refl
+operand_is (Unary o) = refl
+operand_is (Binary o) = refl
+operand_is (Constant i) = refl
+operand_is Variable = refl
 
-module _ (n : ℕ) (items : List Item) (x : Item) (h : n < length items) where
-  pub item_gained : map part_of (take (n + 1) (set items n x)) ≡ map part_of (take n items) ++ part_of x ∷ []
-  item_gained = ap (map part_of) (take_more_set items n x h) ∙ map_push part_of (take n items) x
+pub leaf_is : (x : Item) → leaves_in x ≡ leaves_among (part_of x ∷ [])
+leaf_is (Operand a) = refl
+leaf_is (Unary o) = refl
+leaf_is (Binary o) = refl
+leaf_is (Constant i) = refl
+leaf_is Variable = refl
 
 module _ (xs : List Part) (x : Part) where
   pub limits_kept : length xs < 7 → operands_among xs + operands_among (x ∷ []) ≤ 2 → leaves_among xs + leaves_among (x ∷ []) ≤ 2 → within_limits (xs ++ x ∷ []) ≡ true
@@ -71,28 +79,14 @@ module _ (xs : List Part) (x : Part) where
       let leaves : 2 < leaves_among (xs ++ x ∷ []) = omega (arith, leaves_append xs (x ∷ [])) in
       and_right (leb (length (xs ++ x ∷ [])) 7) _ (and_right (leb (operands_among (xs ++ x ∷ [])) 2) _ (lt-leb _ 2 leaves))
 
--- the last of the first n items replaced
-module _ (n : ℕ) (items : List Item) (x : Item) (h : n ≤ length items) (some : EndsInConstant (map part_of (take n items))) where
-  pub counted_one : 1 ≤ n
-  counted_one = omega (arith, count_is n items h, ap length some.3, length_push some.0 (constant some.1 some.2))
-
-  pub item_replaced : map part_of (take n (set items (n - 1) x)) ≡ last_replaced (map part_of (take n items)) (part_of x)
-  item_replaced =
-      let one = counted_one in
-      let back : n ≡ n - 1 + 1 = omega arith in
-      let less : length (map part_of (take n items)) - 1 ≡ n - 1 = omega (arith, count_is n items h) in
-      ap (λ k. map part_of (take k (set items (n - 1) x))) back
-      ∙ item_gained (n - 1) items x (omega arith)
-      ∙ ap (λ xs. xs ++ part_of x ∷ [])
-      (sym (ap (λ k. take k (map part_of (take n items))) less ∙ take-map part_of (n - 1) (take n items) ∙ ap (map part_of) (take-take (n - 1) n items (omega arith))))
+-- the last part replaced
+pub replaced_last : (ys : List Part) (c x : Part) → last_replaced (ys ++ c ∷ []) x ≡ ys ++ x ∷ []
+replaced_last ys c x =
+    let less : length (ys ++ c ∷ []) - 1 ≡ length ys = omega (arith, length_push ys c) in
+    ap (λ zs. zs ++ x ∷ []) (ap (λ k. take k (ys ++ c ∷ [])) less ∙ take_at ys (c ∷ []) (length ys) refl)
 
 pub replaced_end : (xs : List Part) (some : EndsInConstant xs) (x : Part) → last_replaced xs x ≡ some.0 ++ x ∷ []
-replaced_end xs some x =
-    let ys = some.0 in
-    let c = constant some.1 some.2 in
-    let less : length (ys ++ c ∷ []) - 1 ≡ length ys = omega (arith, length_push ys c) in
-    ap (λ zs. last_replaced zs x) some.3
-    ∙ ap (λ zs. zs ++ x ∷ []) (ap (λ k. take k (ys ++ c ∷ [])) less ∙ take_at ys (c ∷ []) (length ys) refl)
+replaced_end xs some x = ap (λ zs. last_replaced zs x) some.3 ∙ replaced_last some.0 (constant some.1 some.2) x
 
 pub operands_replaced : (xs : List Part) (some : EndsInConstant xs) (l h : ℕ) → operands_among (last_replaced xs (constant l h)) ≡ operands_among xs
 operands_replaced xs some l h =

@@ -1,26 +1,26 @@
 -- A rule that has been read is taken by the description.
-use Rattle.std.proofs.Common.{◌≡◌, ℕ, zero, suc, ◌+◌, ◌<◌, ◌≤◌, true, false, cond, ◌&&◌, eqb, ltb, leb, List, [], ◌∷◌, ◌++◌, map, length, get_or, Some, None, Option, sym, refl, ap, ◌∙◌, subst, ap₂, arith}
+use Rattle.std.proofs.Common.{◌≡◌, ℕ, zero, suc, ◌+◌, ◌≤◌, true, cond, ◌&&◌, eqb, ltb, leb, List, [], ◌∷◌, ◌++◌, map, length, Some, None, Option, sym, refl, ap, ◌∙◌, subst, ap₂, arith}
 use Rattle.std.specs.List.{AllByRecursion}
+use Rattle.std.specs.Option.{MatchOption, option_map_or}
 use Rattle.std.proofs.lemmas.List.{length-map, map_push}
 use Rattle.std.proofs.lemmas.Bool.{and_from, and_parts, lt-ltb, le-ltb, both_ways, cond-true, cond-false}
 use Rattle.lexer.specs.declared.Token.{Token}
 use Rattle.pattern.specs.declared.items.Item.{Item}
 use Rattle.pattern.specs.declared.items.Item.TheVariants.{Operand, Unary, Binary, Constant, Variable}
 use Rattle.pattern.specs.Items.{item_parts, whole_from, count_of_operands, count_of_leaves, pattern_items}
+use Rattle.pattern.specs.declared.names.ShortName.{ShortName}
 use Rattle.pattern.specs.Patterns.{items_of}
 use Rattle.description.specs.declared.descriptions.Description.{Description}
 use Rattle.description.specs.declared.rules.Nonterminal.{Nonterminal}
 use Rattle.description.specs.declared.rules.Rule.{Rule}
-use Rattle.description.specs.declared.rules.Emission.{Emission}
-use Rattle.description.specs.declared.rules.Emission.TheVariants.{Rename, Instruction}
 use Rattle.description.specs.declared.refusals.RuleRefusal.{RuleRefusal}
 use Rattle.description.specs.declared.refusals.RuleRefusal.TheVariants.{TooMany, LeftUndeclared, OperandUndeclared, NotRename}
 use Rattle.description.specs.Names.{place_letter}
 use Rattle.description.specs.Rules.{only_operand}
 use Rattle.description.specs.Fits.{operand_below, operands_below, chain_at_place, may_emit}
 use Rattle.description.specs.Descriptions.{names_of, rules_of, start_of, ItemAt, RuleAdded, RuleDenied}
-use Rattle.description.specs.Outlines.{Part, operand, one_sided, two_sided, constant, variable, Declaration, part_of, declaration_of, production_of, emitted}
-use Rattle.description.proofs.Counts.{count_of_names}
+use Rattle.description.specs.Outlines.{part_of, declaration_of, production_of, emitted}
+use Rattle.description.proofs.Names.{letter_is}
 use Rattle.reader.specs.declared.progress.Progress.{Progress}
 use Rattle.reader.specs.Words.{is_number, value_in}
 use Rattle.reader.specs.Reading.{Draft, Awaits, Outcome, lies, renames, operands_among, leaves_among, within_limits, number_upto, rule_read, rule_end, cycles_number, goes, fails}
@@ -32,27 +32,9 @@ lies_is [] i = refl
 lies_is (n ∷ ns) zero = refl
 lies_is (n ∷ ns) (suc i) = lies_is ns i
 
-letter_at : (ns : List Nonterminal) (i : ℕ) (d : Nonterminal) → i < length ns → lies (map declaration_of ns) i ≡ (get_or ns i d).place.letter
-letter_at [] i d h = absurd (omega arith)
-letter_at (n ∷ ns) zero d h = refl
-letter_at (n ∷ ns) (suc i) d h = letter_at ns i d (omega arith)
-
-pub letter_found : (ns : List Nonterminal) (i : ℕ) (n : Nonterminal) → ItemAt ns i n → n.place.letter ≡ lies (map declaration_of ns) i
-letter_found ns i n h = sym (letter_at ns i n h.within ∙ ap (λ m. m.place.letter) (h.is n))
-
-pub letter_none : (ns : List Nonterminal) (i : ℕ) → length ns ≤ i → 0 ≡ lies (map declaration_of ns) i
-letter_none [] i h = refl
-letter_none (n ∷ ns) zero h = absurd (omega arith)
-letter_none (n ∷ ns) (suc i) h = letter_none ns i (omega arith)
-
-pub no_rename : (ds : List Declaration) (a : ℕ) (xs : List Part) → (length xs ≡ 1 → ⊥) → false ≡ renames ds a xs
-no_rename ds a [] h = refl
-no_rename ds a (operand b ∷ []) h = absurd (h refl)
-no_rename ds a (operand b ∷ x ∷ xs) h = refl
-no_rename ds a (one_sided o ∷ xs) h = refl
-no_rename ds a (two_sided o ∷ xs) h = refl
-no_rename ds a (constant l k ∷ xs) h = refl
-no_rename ds a (variable ∷ xs) h = refl
+-- where the name of a number lies
+pub letter_lies : (ns : List Nonterminal) (i : ℕ) (o : Option Nonterminal) → MatchOption o (length ns ≤ i) (λ n. ItemAt ns i n) → option_map_or (λ n. n.place.letter) o 0 ≡ lies (map declaration_of ns) i
+letter_lies ns i o h = letter_is ns i o h ∙ sym (lies_is ns i)
 
 renames_is : (ns : List Nonterminal) (a : ℕ) (xs : List Item) → renames (map declaration_of ns) a (map part_of xs) ≡ chain_at_place ns a (only_operand xs)
 renames_is ns a [] = refl
@@ -112,11 +94,11 @@ operands_fit : (n : ℕ) (xs : List Item) → AllByRecursion (OperandIn n) (map 
 operands_fit n [] h = refl
 operands_fit n (x ∷ xs) h = and_from _ _ (operand_fits n x h.0) (operands_fit n xs h.1)
 
-emits_fit : (g : Progress) (w : Awaits) (r : Rule) (e : Emission) (d : Draft) → d.left_name ≡ r.left → d.so_far ≡ map part_of (items_of r.pattern) → MayEmit (stands g w).outline d (emitted e) → may_emit (names_of g.description) r e ≡ true
-emits_fit g w r Rename d left parts h =
+emits_fit : (g : Progress) (w : Awaits) (r : Rule) (e : Option ShortName) (d : Draft) → d.left_name ≡ r.left → d.so_far ≡ map part_of (items_of r.pattern) → MayEmit (stands g w).outline d (emitted e) → may_emit (names_of g.description) r e ≡ true
+emits_fit g w r None d left parts h =
     sym (renames_is (names_of g.description) r.left (items_of r.pattern))
     ∙ sym (ap₂ (renames (declarations_of g)) left parts) ∙ h
-emits_fit g w r (Instruction m) d left parts h = refl
+emits_fit g w r (Some m) d left parts h = refl
 
 -- a rule that stands for what was read is not refused
 module _ (g : Progress) (w : Awaits) (r : Rule) (d : Draft) (e : Option (List ℕ)) (size cycles : ℕ) (same : production_of r ≡ production_from d e size cycles) where
@@ -130,7 +112,7 @@ module _ (g : Progress) (w : Awaits) (r : Rule) (d : Draft) (e : Option (List �
       both_ways _ denied.2 (operands_fit (length (names_of g.description)) (items_of r.pattern) all')
   rule_fits fit may NotRename denied =
       let may' = subst (MayEmit (stands g w).outline d) (sym (ap (λ p. p.emits) same)) may in
-      both_ways _ denied.3 (emits_fit g w r r.emission d (sym (ap (λ p. p.derives) same)) (sym (ap (λ p. p.parts) same)) may')
+      both_ways _ denied.3 (emits_fit g w r r.mnemonic d (sym (ap (λ p. p.derives) same)) (sym (ap (λ p. p.parts) same)) may')
 
   pub rule_gained : (after : Description) → RuleAdded g.description r after → start_of after ≡ (stands g w).outline.begins → stands (record { description = after; line_start = g.line_start }) rule_end ≡ rule_read (stands g w) d e size cycles
   rule_gained after h start =
@@ -144,8 +126,7 @@ module _ (g : Progress) (w : Awaits) (r : Rule) (d : Draft) (e : Option (List �
 
 pub start_same : (d after : Description) → names_of after ≡ names_of d → after.start ≡ d.start → start_of after ≡ start_of d
 start_same d after names start =
-    let counts : after.name_count ≡ d.name_count = sym (count_of_names after) ∙ ap length names ∙ count_of_names d in
-    ap₂ (λ n s. cond (eqb n 0) None (Some s)) counts start
+    ap₂ (λ (ns : List Nonterminal) s. cond (eqb (length ns) 0) None (Some s)) names start
 
 pub upto_ok : (limit v : ℕ) (t : Token) (p : ℕ) → (is_number t ≡ true) × (value_in t ≡ v) × (v ≤ limit) → (o : Outcome) → number_upto limit t p o ≡ o
 upto_ok limit v t p h o =

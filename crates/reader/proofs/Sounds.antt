@@ -1,8 +1,8 @@
 -- A token keeps the state sound.
-use Rattle.std.proofs.Common.{◌≡◌, ℕ, zero, suc, ◌+◌, ◌-◌, ◌^◌, ◌<◌, ◌≤◌, true, false, cond, ◌&&◌, eqb, ltb, leb, List, [], ◌∷◌, ◌++◌, length, take, drop, is_some, Some, None, codes, Option, sym, refl, ap, ◌∙◌, subst, ⊎_elim, arith, length-append}
+use Rattle.std.proofs.Common.{◌≡◌, ℕ, zero, suc, ◌+◌, ◌-◌, ◌^◌, ◌<◌, ◌≤◌, true, false, cond, ◌&&◌, eqb, ltb, leb, List, [], ◌∷◌, ◌++◌, length, take, is_some, Some, None, codes, Option, sym, refl, ap, ◌∙◌, subst, ⊎_elim, arith, length-append}
 use Rattle.std.proofs.ByRecursion.{All-append, All-take}
 use Rattle.std.proofs.lemmas.List.{append_assoc, length_push}
-use Rattle.std.proofs.lemmas.Bool.{cond_both, cond-true, cond-false, cases_Bool, both_ways, eqb-true, leb-true, leb-false, ltb-false, and_parts}
+use Rattle.std.proofs.lemmas.Bool.{cond_both, cond-true, cond-false, cases_Bool, both_ways, eqb-true, leb-false, ltb-false}
 use Rattle.operators.specs.declared.Operator.{Operator}
 use Rattle.operators.specs.declared.Operator.TheVariants.{Cnst, Var, One, Two}
 use Rattle.lexer.specs.declared.Token.{Token}
@@ -11,7 +11,8 @@ use Rattle.description.specs.Names.{same_text}
 use Rattle.description.specs.Outlines.{Part, operand, one_sided, two_sided, constant, variable, Declaration, Outline}
 use Rattle.reader.specs.Words.{is, is_number, value_in, declared_from, operator_called}
 use Rattle.reader.specs.Reading.{Bracket, Draft, Awaits, State, Outcome, header_end, directive, new_name, name_place, declaration_end, start_name, start_end, rule_or_end, left_colon, first_item, item, opening, after_item, after_constant, low_end, two_dots, high_end, mnemonic_word, size_number, cycles_number, rule_end, goes, ends, fails, to, next_line, operands_among, leaves_among, within_limits, filled_one, with_brackets, gained, part_read, gain, declared, operand_item, capital_item, any_item, no_parts, item_done, last_replaced, ranged, renames, number_upto, rule_read, start_found, left_found, step_at, step}
-use Rattle.reader.specs.States.{EndsInConstant, few_filled}
+use Rattle.reader.specs.Sketches.{items_taken}
+use Rattle.reader.specs.States.{EndsInConstant}
 use Rattle.reader.specs.Soundness.{parts_in, whole_parts, OperandIn, Laid, LaidAfter, LaidBefore, LaidConstant, Fitting, SoundAt, Sound, SoundAfter}
 use Rattle.reader.proofs.Parts.{replaced_end, operands_replaced, leaves_replaced}
 
@@ -44,21 +45,10 @@ whole_few n [] e = omega (arith, eqb-true n 0 e)
 whole_few zero (x ∷ xs) e = omega arith
 whole_few (suc n) (x ∷ xs) e = omega (arith, whole_few (parts_in x + n) xs e)
 
-laid_few : (bs : List Bracket) (xs : List Part) → Laid bs xs → length xs ≤ 7 → few_filled bs
-laid_few [] xs l h = tt
-laid_few (b ∷ bs) xs l h =
-    omega (arith, whole_few b.filled l.2 l.5, ap length l.3, length-append l.0 (l.1 ∷ l.2))
-
-laid_count : (bs : List Bracket) (xs : List Part) → Laid bs xs → length bs ≤ length xs
-laid_count [] xs l = omega arith
-laid_count (b ∷ bs) xs l = omega (arith, laid_count bs l.0 l.6, ap length l.3, length-append l.0 (l.1 ∷ l.2))
-
-few_outer : (bs : List Bracket) (xs : List Part) → LaidAfter bs xs → length xs ≤ 7 → few_filled (drop 1 bs)
-few_outer [] xs l h = tt
-few_outer (b ∷ bs) xs l h = laid_few bs l.0 l.6 (omega (arith, ap length l.3, length-append l.0 (l.1 ∷ l.2)))
-
-few_items : (xs : List Part) → within_limits xs ≡ true → length xs ≤ 7
-few_items xs e = leb-true (length xs) 7 (and_parts (leb (length xs) 7) _ e).0
+laid_taken : (bs : List Bracket) (xs : List Part) → Laid bs xs → items_taken bs ≤ length xs
+laid_taken [] xs l = omega arith
+laid_taken (b ∷ bs) xs l =
+    omega (arith, laid_taken bs l.0 l.6, whole_few b.filled l.2 l.5, ap length l.3, length-append l.0 (l.1 ∷ l.2))
 
 constant_after : (bs : List Bracket) (xs : List Part) → LaidConstant bs xs → LaidAfter bs xs
 constant_after bs xs l =
@@ -66,19 +56,9 @@ constant_after bs xs l =
     subst (λ cs. LaidAfter cs xs) (sym l.4.1)
     (subst (LaidAfter (filled_one l.4.0)) (sym l.3) (part_added l.4.0 l.0 (c ∷ []) l.4.2 refl))
 
--- what the code asks of a sound state
-pub few_at_item : (o : Outline) (d : Draft) → Fitting o d → Laid d.brackets d.so_far → few_filled d.brackets
-few_at_item o d f l = laid_few d.brackets d.so_far l (few_items d.so_far f.limits)
-
-pub few_after_item : (o : Outline) (d : Draft) → Fitting o d → LaidAfter d.brackets d.so_far → few_filled (drop 1 d.brackets)
-few_after_item o d f l = few_outer d.brackets d.so_far l (few_items d.so_far f.limits)
-
-pub few_after_constant : (o : Outline) (d : Draft) → Fitting o d → LaidConstant d.brackets d.so_far → few_filled (drop 1 d.brackets)
-few_after_constant o d f l = few_after_item o d f (constant_after d.brackets d.so_far l)
-
-pub room_at_opening : (o : Outline) (n : ℕ) (d : Draft) → Fitting o d → LaidBefore n d.brackets d.so_far → length d.brackets < 7
-room_at_opening o n d f l =
-    omega (arith, few_items d.so_far f.limits, laid_count d.brackets l.0 l.4, ap length l.2, length_push l.0 l.1)
+-- what the code asks of a sound state: the operator whose bracket follows is in no bracket yet
+pub room_at_opening : (n : ℕ) (d : Draft) → LaidBefore n d.brackets d.so_far → items_taken d.brackets < length d.so_far
+room_at_opening n d l = omega (arith, laid_taken d.brackets l.0 l.4, ap length l.2, length_push l.0 l.1)
 
 pub constant_last : (bs : List Bracket) (xs : List Part) → LaidConstant bs xs → EndsInConstant xs
 constant_last bs xs l = (l.0, l.1, l.2, l.3)

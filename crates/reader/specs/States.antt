@@ -1,5 +1,5 @@
 -- What the reader's memory stands for: the state and the outcomes of the definition of reading.
-use Rattle.std.specs.Prelude.{◌≡◌, ℕ, ◌-◌, ◌^◌, ◌≤◌, Bool, true, false, cond, List, [], ◌∷◌, ◌++◌, map, take, drop, None, Ok, Err, Option, Result}
+use Rattle.std.specs.Prelude.{◌≡◌, ℕ, ◌-◌, ◌^◌, ◌≤◌, Bool, true, false, cond, List, [], ◌∷◌, ◌++◌, map, Some, None, Ok, Err, Option, Result}
 use Rattle.operators.specs.declared.Operator.{Operator}
 use Rattle.operators.specs.declared.Operator.TheVariants.{Cnst, Var, One, Two}
 use Rattle.lexer.specs.declared.Token.{Token}
@@ -8,26 +8,21 @@ use Rattle.description.specs.declared.descriptions.Description.{Description}
 use Rattle.description.specs.Descriptions.{names_of, rules_of, start_of}
 use Rattle.description.specs.Outlines.{Part, one_sided, two_sided, constant, variable, Declaration, Production, part_of, declaration_of, production_of, emitted, outline_of}
 use Rattle.reader.specs.declared.faults.ReadFault.{ReadFault}
-use Rattle.reader.specs.declared.sketches.Opened.{Opened}
 use Rattle.reader.specs.declared.sketches.Sketch.{Sketch}
 use Rattle.reader.specs.declared.progress.Expect.{Expect}
 use Rattle.reader.specs.declared.progress.Expect.TheVariants.{HeaderEnd, Directive, NewName, NamePlace, DeclarationEnd, StartName, StartEnd, RuleOrEnd, LeftColon, FirstPart, NextPart, Opening, AfterPart, AfterConstant, LowEnd, TwoDots, HighEnd, Mnemonic, Size, Cycles, RuleEnd}
-use Rattle.reader.specs.declared.progress.Step.{Step}
-use Rattle.reader.specs.declared.progress.Step.TheVariants.{More, Done}
 use Rattle.reader.specs.declared.progress.Progress.{Progress}
 use Rattle.reader.specs.declared.lexemes.Lexeme.{Lexeme}
 use Rattle.reader.specs.Words.{is_number, value_in}
+use Rattle.reader.specs.Sketches.{brackets_of}
 use Rattle.reader.specs.Faults.{fault_number, fault_place}
-use Rattle.reader.specs.Reading.{Bracket, Draft, Awaits, State, Outcome, Answer, header_end, directive, new_name, name_place, declaration_end, start_name, start_end, rule_or_end, left_colon, first_item, item, opening, after_item, after_constant, low_end, two_dots, high_end, mnemonic_word, size_number, cycles_number, rule_end, goes, ends, fails, with_brackets, step, number_upto}
-
-abbrev pub bracket_of : Opened → Bracket
-bracket_of b = record { wants = b.arity; stands = b.place; filled = b.done }
+use Rattle.reader.specs.Reading.{Draft, Awaits, State, Outcome, Answer, header_end, directive, new_name, name_place, declaration_end, start_name, start_end, rule_or_end, left_colon, first_item, item, opening, after_item, after_constant, low_end, two_dots, high_end, mnemonic_word, size_number, cycles_number, rule_end, goes, ends, fails, with_brackets, step, number_upto}
 
 abbrev pub draft_of : Sketch → Draft
 draft_of d = record {
   left_name = d.left;
-  so_far = map part_of (take d.count d.items);
-  brackets = map bracket_of (drop d.top d.opened);
+  so_far = map part_of d.items;
+  brackets = brackets_of d.opened;
 }
 
 -- a rule of which only the left name is read
@@ -44,11 +39,6 @@ part_for Cnst = constant 0 (2 ^ 32 - 1)
 part_for Var = variable
 part_for (One o) = one_sided o
 part_for (Two o) = two_sided o
-
--- the innermost bracket has at most 7 parts
-abbrev pub few_filled : List Bracket → Type 0
-few_filled [] = Unit {0}
-few_filled (b ∷ bs) = b.filled ≤ 7
 
 -- the rule that has been read
 abbrev pub production_from : Draft → Option (List ℕ) → ℕ → ℕ → Production
@@ -130,9 +120,9 @@ stands g w = record {
 }
 
 -- what the answer to a token stands for, where the memory is then g
-abbrev pub outcome_of : Progress → Result Step ReadFault → Outcome
-outcome_of g (Ok (More e)) = goes (stands g (awaits_of e))
-outcome_of g (Ok Done) = ends (outline_of g.description)
+abbrev pub outcome_of : Progress → Result (Option Expect) ReadFault → Outcome
+outcome_of g (Ok (Some e)) = goes (stands g (awaits_of e))
+outcome_of g (Ok None) = ends (outline_of g.description)
 outcome_of g (Err f) = fails (fault_number f) (fault_place f)
 
 -- one token more, where this is awaited

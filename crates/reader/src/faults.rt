@@ -1,10 +1,10 @@
 // Why a text is no description.
 ghost use Rattle.std.specs.Prelude.{◌≡◌};
 ghost use Rattle.reader.specs.declared.faults.ReadFault.TheVariants.{Lexical};
+ghost use Rattle.reader.specs.Faults.{fault_number, fault_place};
 
+use fault::Fault;
 use lexer::LexicalFault;
-
-mod calls;
 
 // What is wrong, and the offset of the byte at which it is told.
 #[derive(Clone, Copy, Debug, PartialEq)]
@@ -36,5 +36,39 @@ impl From<LexicalFault> for ReadFault {
 
     fn from(fault: LexicalFault) -> ReadFault {
         ReadFault::Lexical(fault)
+    }
+}
+
+impl Fault for ReadFault {
+    ghost number_of = { fault_number };
+
+    ghost place_of = { fault_place };
+
+    fn number(self) -> u32 {
+        match self {
+            ReadFault::NoMark => 1,
+            ReadFault::Version(_) => 2,
+            ReadFault::Lexical(_) | ReadFault::Unexpected(_) => 3,
+            ReadFault::Unknown(_) => 4,
+            ReadFault::WrongParts(_) => 5,
+            ReadFault::OverLimit(_) => 6,
+            ReadFault::TooMany(_) => 7,
+            ReadFault::Repeated(_) | ReadFault::NotRename(_) => 8,
+        }
+    }
+
+    fn place(self) -> usize {
+        match self {
+            ReadFault::NoMark => 0,
+            ReadFault::Lexical(fault) => fault.place(),
+            ReadFault::Version(place)
+            | ReadFault::Unexpected(place)
+            | ReadFault::Unknown(place)
+            | ReadFault::WrongParts(place)
+            | ReadFault::OverLimit(place)
+            | ReadFault::TooMany(place)
+            | ReadFault::Repeated(place)
+            | ReadFault::NotRename(place) => place,
+        }
     }
 }

@@ -1,14 +1,15 @@
 // The pattern of a rule.
-ghost use Rattle.std.specs.Prelude.{◌≡◌, ◌+◌, ◌<◌, true, ◌∷◌, map, drop, Some};
+ghost use Rattle.std.specs.Prelude.{◌≡◌, ◌<◌, true, ◌∷◌, length, drop, Some};
 ghost use Rattle.lexer.specs.declared.Token.TheVariants.{Name};
 ghost use Rattle.description.specs.Outlines.{part_of};
 ghost use Rattle.reader.specs.Words.{is, declared_from, operator_called};
 ghost use Rattle.reader.specs.Reading.{left_colon, first_item, item, opening, after_item, after_constant, low_end, two_dots, high_end, operand_item, capital_item, item_done};
-ghost use Rattle.reader.specs.States.{bracket_of, draft_of, declarations_of, stands, stepped, outcome_of, few_filled, part_for, EndsInConstant};
+ghost use Rattle.reader.specs.Sketches.{bracket_of, brackets_of, items_taken};
+ghost use Rattle.reader.specs.States.{draft_of, declarations_of, stands, stepped, outcome_of, part_for, EndsInConstant};
 
 use crate::faults::ReadFault;
 use crate::lexemes::Lexeme;
-use crate::progress::{Expect, Progress, Step};
+use crate::progress::{Expect, Progress};
 use crate::sketches::{Opened, Sketch};
 use lexer::Token;
 use operators::Operator;
@@ -19,10 +20,7 @@ use std::str::from_utf8;
 fn operator_called(letters: &[u8]) -> Option<Operator>
     ensures { result ≡ operator_called letters.now }
 {
-    let Ok(name) = from_utf8(letters) else {
-        return None;
-    };
-    Operator::from_name(name)
+    from_utf8(letters).ok()?.parse().ok()
 }
 
 // The item of an operator; a constant's range is full until it is told.
@@ -43,18 +41,25 @@ fn item_of(operator: Operator) -> Item
 }
 
 impl Progress {
-    pub(crate) fn left_colon(&self, draft: Sketch, word: &Lexeme) -> Result<Step, ReadFault>
+    pub(crate) fn left_colon(
+        &self,
+        draft: Sketch,
+        word: &Lexeme,
+    ) -> Result<Option<Expect>, ReadFault>
         ensures { outcome_of self.now result ≡ stepped self.now (left_colon (draft_of draft)) word.now }
     {
         if !word.is(Token::Colon) {
             return Err(ReadFault::Unexpected(word.place));
         }
-        Ok(Step::More(Expect::NextPart(draft)))
+        Ok(Some(Expect::NextPart(draft)))
     }
 
     // Right after a bracket.
-    pub(crate) fn first_part(&self, draft: Sketch, word: &Lexeme) -> Result<Step, ReadFault>
-        requires { few_filled (draft_of draft).brackets }
+    pub(crate) fn first_part(
+        &self,
+        draft: Sketch,
+        word: &Lexeme,
+    ) -> Result<Option<Expect>, ReadFault>
         ensures { outcome_of self.now result ≡ stepped self.now (first_item (draft_of draft)) word.now }
     {
         if !word.is(Token::Close) {
@@ -66,8 +71,11 @@ impl Progress {
         }
     }
 
-    pub(crate) fn next_part(&self, draft: Sketch, word: &Lexeme) -> Result<Step, ReadFault>
-        requires { few_filled (draft_of draft).brackets }
+    pub(crate) fn next_part(
+        &self,
+        draft: Sketch,
+        word: &Lexeme,
+    ) -> Result<Option<Expect>, ReadFault>
         ensures { outcome_of self.now result ≡ stepped self.now (item (draft_of draft)) word.now }
     {
         if word.is(Token::Name) {
@@ -82,32 +90,36 @@ impl Progress {
         }
     }
 
-    fn operand(&self, draft: Sketch, word: &Lexeme) -> Result<Step, ReadFault>
-        requires { (is Name word.now.token ≡ true) × (few_filled (draft_of draft).brackets) }
+    fn operand(&self, draft: Sketch, word: &Lexeme) -> Result<Option<Expect>, ReadFault>
+        requires { is Name word.now.token ≡ true }
         ensures { outcome_of self.now result ≡ operand_item (stands self.now (item (draft_of draft))) (draft_of draft) word.now.place (declared_from 0 word.now.text.now (declarations_of self.now)) }
     {
         let Some(number) = self.number_of(word) else {
             return Err(ReadFault::Unknown(word.place));
         };
         match draft.gain(Item::Operand(number)) {
-            Some(longer) => Ok(Step::More(Expect::AfterPart(longer.part_read()))),
+            Some(longer) => Ok(Some(Expect::AfterPart(longer.part_read()))),
             None => Err(ReadFault::TooMany(self.line_start)),
         }
     }
 
     // A leaf, or an operator at `place` whose bracket must follow.
-    fn operator(&self, draft: Sketch, operator: Operator, place: usize) -> Result<Step, ReadFault>
-        requires { few_filled (draft_of draft).brackets }
+    fn operator(
+        &self,
+        draft: Sketch,
+        operator: Operator,
+        place: usize,
+    ) -> Result<Option<Expect>, ReadFault>
         ensures { outcome_of self.now result ≡ capital_item (stands self.now (item (draft_of draft))) (draft_of draft) place (Some operator) }
     {
         let Some(longer) = draft.gain(item_of(operator)) else {
             return Err(ReadFault::TooMany(self.line_start));
         };
         match operator {
-            Operator::Cnst => Ok(Step::More(Expect::AfterConstant(longer.part_read()))),
-            Operator::Var => Ok(Step::More(Expect::AfterPart(longer.part_read()))),
-            Operator::One(_) => Ok(Step::More(Expect::Opening(1, place, longer))),
-            Operator::Two(_) => Ok(Step::More(Expect::Opening(2, place, longer))),
+            Operator::Cnst => Ok(Some(Expect::AfterConstant(longer.part_read()))),
+            Operator::Var => Ok(Some(Expect::AfterPart(longer.part_read()))),
+            Operator::One(_) => Ok(Some(Expect::Opening(1, place, longer))),
+            Operator::Two(_) => Ok(Some(Expect::Opening(2, place, longer))),
         }
     }
 
@@ -118,18 +130,21 @@ impl Progress {
         place: usize,
         draft: Sketch,
         word: &Lexeme,
-    ) -> Result<Step, ReadFault>
-        requires { 0 < draft.top }
+    ) -> Result<Option<Expect>, ReadFault>
+        requires { items_taken (brackets_of draft.opened) < length draft.items }
         ensures { outcome_of self.now result ≡ stepped self.now (opening arity place (draft_of draft)) word.now }
     {
         if !word.is(Token::Open) {
             return Err(ReadFault::Unexpected(word.place));
         }
-        Ok(Step::More(Expect::FirstPart(draft.open(arity, place))))
+        Ok(Some(Expect::FirstPart(draft.open(arity, place))))
     }
 
-    pub(crate) fn after_part(&self, draft: Sketch, word: &Lexeme) -> Result<Step, ReadFault>
-        requires { few_filled (map bracket_of (drop (draft.top + 1) draft.opened)) }
+    pub(crate) fn after_part(
+        &self,
+        draft: Sketch,
+        word: &Lexeme,
+    ) -> Result<Option<Expect>, ReadFault>
         ensures { outcome_of self.now result ≡ stepped self.now (after_item (draft_of draft)) word.now }
     {
         if let Some(bracket) = draft.innermost() {
@@ -138,19 +153,23 @@ impl Progress {
         if !word.is(Token::Equals) {
             return Err(ReadFault::Unexpected(word.place));
         }
-        Ok(Step::More(Expect::Mnemonic(draft)))
+        Ok(Some(Expect::Mnemonic(draft)))
     }
 
     // After a part of the innermost bracket.
-    fn in_bracket(&self, draft: Sketch, bracket: Opened, word: &Lexeme) -> Result<Step, ReadFault>
-        requires { (draft.top < 7) × (few_filled (map bracket_of (drop (draft.top + 1) draft.opened))) }
-        ensures { outcome_of self.now result ≡ item_done (stands self.now (after_item (draft_of draft))) (draft_of draft) (bracket_of bracket ∷ map bracket_of (drop (draft.top + 1) draft.opened)) word.now.token word.now.place }
+    fn in_bracket(
+        &self,
+        draft: Sketch,
+        bracket: Opened,
+        word: &Lexeme,
+    ) -> Result<Option<Expect>, ReadFault>
+        ensures { outcome_of self.now result ≡ item_done (stands self.now (after_item (draft_of draft))) (draft_of draft) (bracket_of bracket ∷ drop 1 (draft_of draft).brackets) word.now.token word.now.place }
     {
         if word.is(Token::Comma) {
             if bracket.done != 1 {
                 return Err(ReadFault::Unexpected(word.place));
             }
-            return Ok(Step::More(Expect::NextPart(draft)));
+            return Ok(Some(Expect::NextPart(draft)));
         }
         if !word.is(Token::Close) {
             return Err(ReadFault::Unexpected(word.place));
@@ -158,24 +177,27 @@ impl Progress {
         if bracket.done != bracket.arity {
             return Err(ReadFault::WrongParts(bracket.place));
         }
-        Ok(Step::More(Expect::AfterPart(draft.close())))
+        Ok(Some(Expect::AfterPart(draft.close())))
     }
 
-    pub(crate) fn after_constant(&self, draft: Sketch, word: &Lexeme) -> Result<Step, ReadFault>
-        requires { few_filled (map bracket_of (drop (draft.top + 1) draft.opened)) }
+    pub(crate) fn after_constant(
+        &self,
+        draft: Sketch,
+        word: &Lexeme,
+    ) -> Result<Option<Expect>, ReadFault>
         ensures { outcome_of self.now result ≡ stepped self.now (after_constant (draft_of draft)) word.now }
     {
         if word.is(Token::Colon) {
-            return Ok(Step::More(Expect::LowEnd(draft)));
+            return Ok(Some(Expect::LowEnd(draft)));
         }
         self.after_part(draft, word)
     }
 
-    pub(crate) fn low_end(&self, draft: Sketch, word: &Lexeme) -> Result<Step, ReadFault>
+    pub(crate) fn low_end(&self, draft: Sketch, word: &Lexeme) -> Result<Option<Expect>, ReadFault>
         ensures { outcome_of self.now result ≡ stepped self.now (low_end (draft_of draft)) word.now }
     {
         let low = word.number_upto(u32::MAX)?;
-        Ok(Step::More(Expect::TwoDots(low, word.place, draft)))
+        Ok(Some(Expect::TwoDots(low, word.place, draft)))
     }
 
     pub(crate) fn two_dots(
@@ -184,13 +206,13 @@ impl Progress {
         low_place: usize,
         draft: Sketch,
         word: &Lexeme,
-    ) -> Result<Step, ReadFault>
+    ) -> Result<Option<Expect>, ReadFault>
         ensures { outcome_of self.now result ≡ stepped self.now (two_dots low low_place (draft_of draft)) word.now }
     {
         if !word.is(Token::Dots) {
             return Err(ReadFault::Unexpected(word.place));
         }
-        Ok(Step::More(Expect::HighEnd(low, low_place, draft)))
+        Ok(Some(Expect::HighEnd(low, low_place, draft)))
     }
 
     pub(crate) fn high_end(
@@ -199,7 +221,7 @@ impl Progress {
         low_place: usize,
         draft: Sketch,
         word: &Lexeme,
-    ) -> Result<Step, ReadFault>
+    ) -> Result<Option<Expect>, ReadFault>
         requires { EndsInConstant (draft_of draft).so_far }
         ensures { outcome_of self.now result ≡ stepped self.now (high_end low low_place (draft_of draft)) word.now }
     {
@@ -207,6 +229,6 @@ impl Progress {
         let Some(interval) = Interval::new(low, high) else {
             return Err(ReadFault::OverLimit(low_place));
         };
-        Ok(Step::More(Expect::AfterPart(draft.ranged(interval))))
+        Ok(Some(Expect::AfterPart(draft.ranged(interval))))
     }
 }

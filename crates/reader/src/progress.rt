@@ -1,10 +1,9 @@
 // What has been read, and what may follow.
 use crate::sketches::Sketch;
 use description::descriptions::Description;
-use description::rules::Emission;
 use pattern::names::ShortName;
 
-// What may follow.
+// What may follow, with what has been read of the line.
 #[derive(Clone, Copy)]
 pub enum Expect {
     HeaderEnd,
@@ -27,16 +26,11 @@ pub enum Expect {
     TwoDots(u32, usize, Sketch),
     HighEnd(u32, usize, Sketch),
     Mnemonic(Sketch),
-    Size(Emission, Sketch),
-    Cycles(u32, Emission, Sketch),
+    // Holds the mnemonic, and none for a rename.
+    Size(Option<ShortName>, Sketch),
+    // Holds the size too.
+    Cycles(u32, Option<ShortName>, Sketch),
     RuleEnd,
-}
-
-// After a token: more is awaited, or the text has ended.
-#[derive(Clone, Copy)]
-pub enum Step {
-    More(Expect),
-    Done,
 }
 
 // The description so far, and where the line began.

@@ -1,16 +1,14 @@
 // Reading a text.
-ghost use Rattle.std.specs.Prelude.{◌≡◌, ◌<◌, ◌≤◌, length, Ok, Err, MatchResult, ◌==◌, slice_index};
+ghost use Rattle.std.specs.Prelude.{◌≡◌, ◌<◌, ◌≤◌, length, Ok, Err, MatchResult};
 ghost use Rattle.description.specs.Outlines.{outline_of};
-ghost use Rattle.lexer.specs.Bytes.{is_digit};
 ghost use Rattle.lexer.specs.Tokens.{token_at};
-ghost use Rattle.reader.specs.Words.{value_in};
 ghost use Rattle.reader.specs.Reading.{read_from, nothing_read, versioned, reading};
 ghost use Rattle.reader.specs.Faults.{fault_number, fault_place};
 ghost use Rattle.reader.specs.States.{answer_of};
 
 use crate::faults::ReadFault;
 use crate::lexemes::Lexeme;
-use crate::progress::{Expect, Progress, Step};
+use crate::progress::{Expect, Progress};
 use description::descriptions::Description;
 use lexer::{Lexer, Token};
 
@@ -25,36 +23,11 @@ pub fn read(text: &[u8], description: &mut Description) -> Result<(), ReadFault>
 fn read_text(text: &[u8]) -> Result<Description, ReadFault>
     ensures { answer_of result ≡ reading text.now }
 {
-    let [b, t, g, ..] = text else {
-        return Err(ReadFault::NoMark);
-    };
-    if *b != b'B' || *t != b'T' || *g != b'G' {
-        return Err(ReadFault::NoMark);
-    }
-    let [_, _, _, b' ', version @ ..] = text else {
-        return Err(ReadFault::Unexpected(3));
-    };
-    if !starts_with_digit(version) {
-        return Err(ReadFault::Unexpected(4));
-    }
-    read_version(text)
-}
-
-fn starts_with_digit(bytes: &[u8]) -> bool
-    ensures { result ≡ is_digit (slice_index bytes.now 0) }
-{
-    if bytes.is_empty() {
-        return false;
-    }
-    bytes[0].is_ascii_digit()
-}
-
-fn is_one(token: Token) -> bool
-    ensures { result ≡ (value_in token == 1) }
-{
-    match token {
-        Token::Number(value) => value == 1,
-        _ => false,
+    match text {
+        [b'B', b'T', b'G', b' ', b'0'..=b'9', ..] => read_version(text),
+        [b'B', b'T', b'G', b' ', ..] => Err(ReadFault::Unexpected(4)),
+        [b'B', b'T', b'G', ..] => Err(ReadFault::Unexpected(3)),
+        _ => Err(ReadFault::NoMark),
     }
 }
 
@@ -65,7 +38,7 @@ fn read_version(text: &[u8]) -> Result<Description, ReadFault>
 {
     let mut lexer = Lexer::at(text, 4);
     match lexer.next() {
-        Ok((token, _)) if is_one(token) => read_lines(lexer),
+        Ok((Token::Number(1), _)) => read_lines(lexer),
         Ok(_) => Err(ReadFault::Version(4)),
         Err(_) => Err(ReadFault::Unexpected(4)),
     }
@@ -86,8 +59,8 @@ fn read_lines(start: Lexer) -> Result<Description, ReadFault>
         let (token, (place, length)) = lexer.next()?;
         let text = &lexer.text[place..place + length];
         match progress.step(expect, &Lexeme { token, place, text })? {
-            Step::More(next) => expect = next,
-            Step::Done => return Ok(progress.description),
+            Some(next) => expect = next,
+            None => return Ok(progress.description),
         }
     }
 }

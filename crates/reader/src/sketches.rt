@@ -1,9 +1,11 @@
 // A rule's pattern while it is read.
-ghost use Rattle.std.specs.Prelude.{◌≡◌, ◌≤◌, map, length, take};
+ghost use Rattle.std.specs.Prelude.{◌≡◌, ◌≤◌, map, length};
 ghost use Rattle.description.specs.Outlines.{part_of};
 ghost use Rattle.reader.specs.Reading.{operands_among, leaves_among};
+ghost use Rattle.reader.specs.Sketches.{blank_bracket, brackets_of, items_taken};
 
 use pattern::items::Item;
+use rows::{Entry, Row};
 
 mod calls;
 
@@ -15,21 +17,29 @@ pub struct Opened {
     pub done: usize,
 }
 
-// The left name, the items so far at the front of their array with the numbers of their operands and leaves,
-// and the open brackets at the end of theirs, the innermost first, at `top`.
+impl Entry for Opened {
+    ghost blank = { blank_bracket };
+
+    fn blank() -> Opened {
+        Opened {
+            arity: 0,
+            place: 0,
+            done: 0,
+        }
+    }
+}
+
+// The left name, the items so far with the numbers of their operands and leaves, and the open brackets, the innermost last:
+// their operators and the parts that are read in them are among the items.
 #[derive(Clone, Copy)]
 pub struct Sketch {
     pub left: u8,
-    pub items: [Item; 7],
-    pub count: usize,
+    pub items: Row<Item, 7>,
     pub operands: usize,
     pub leaves: usize,
-    pub opened: [Opened; 7],
-    pub top: usize,
-    ghost item_room: { length items ≡ 7 },
-    ghost few: { count ≤ 7 },
-    ghost counted: { operands ≡ operands_among (map part_of (take count items)) },
-    ghost tallied: { leaves ≡ leaves_among (map part_of (take count items)) },
-    ghost bracket_room: { length opened ≡ 7 },
-    ghost inside: { top ≤ 7 },
+    pub opened: Row<Opened, 7>,
+    ghost few: { length items ≤ 7 },
+    ghost counted: { operands ≡ operands_among (map part_of items) },
+    ghost tallied: { leaves ≡ leaves_among (map part_of items) },
+    ghost laid: { items_taken (brackets_of opened) ≤ length items },
 }

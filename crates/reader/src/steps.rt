@@ -5,10 +5,15 @@ ghost use Rattle.reader.specs.Soundness.{Sound};
 
 use crate::faults::ReadFault;
 use crate::lexemes::Lexeme;
-use crate::progress::{Expect, Progress, Step};
+use crate::progress::{Expect, Progress};
 
 impl Progress {
-    pub(crate) fn step(&mut self, expect: Expect, word: &Lexeme) -> Result<Step, ReadFault>
+    // What may follow holds what has been read, so each of them is a variant with its data, and one function answers each.
+    pub(crate) fn step(
+        &mut self,
+        expect: Expect,
+        word: &Lexeme,
+    ) -> Result<Option<Expect>, ReadFault>
         requires { Sound (stands self.old (awaits_of expect)) }
         ensures { outcome_of self.new result ≡ stepped self.old (awaits_of expect) word.now }
     {
@@ -31,8 +36,8 @@ impl Progress {
             Expect::TwoDots(low, place, draft) => self.two_dots(low, place, draft, word),
             Expect::HighEnd(low, place, draft) => self.high_end(low, place, draft, word),
             Expect::Mnemonic(draft) => self.mnemonic(draft, word),
-            Expect::Size(emission, draft) => self.size(emission, draft, word),
-            Expect::Cycles(size, emission, draft) => self.cycles(size, emission, draft, word),
+            Expect::Size(mnemonic, draft) => self.size(mnemonic, draft, word),
+            Expect::Cycles(size, mnemonic, draft) => self.cycles(size, mnemonic, draft, word),
             Expect::RuleEnd => self.to_rule(word),
         }
     }

@@ -2,6 +2,7 @@
 use crate::faults::ReadFault;
 use crate::read::read;
 use description::descriptions::Description;
+use fault::Fault;
 use lexer::LexicalFault;
 use std::process::Abort;
 use std::test::Fail;
@@ -22,15 +23,15 @@ fn refuses(rt: &impl Abort, text: &[u8], fault: ReadFault, number: u32, place: u
 fn whole(rt: HostRuntime) -> Result<(), Fail> {
     let mut description = Description::empty();
     assert_eq!(rt; read(WHOLE, &mut description), Ok(()));
-    assert_eq!(rt; description.name_count, 2);
+    assert_eq!(rt; description.names.len(), 2);
     assert_eq!(rt; description.start_number(), Some(0));
-    assert_eq!(rt; description.rule_count, 8);
+    assert_eq!(rt; description.rules.len(), 8);
     assert!(rt; read(b"BTG 2", &mut description).is_err());
-    assert_eq!(rt; description.rule_count, 8);
+    assert_eq!(rt; description.rules.len(), 8);
     match description.rule(7) {
         Some(rule) => {
             assert_eq!(rt;
-                (rule.left, rule.pattern.len, rule.figures.cycles),
+                (rule.left, rule.pattern.items.len(), rule.figures.cycles),
                 (1, 5, 8)
             );
             Ok(())
@@ -47,7 +48,7 @@ fn ends(rt: HostRuntime) {
         read(b"BTG 001  \n%nt d D\n%start  d \n ", &mut description),
         Ok(())
     );
-    assert_eq!(rt; description.name_count, 1);
+    assert_eq!(rt; description.names.len(), 1);
     refuses(&rt, b"BTG 1", ReadFault::Unexpected(5), 3, 5);
     refuses(&rt, b"BTG 1 ", ReadFault::Unexpected(6), 3, 6);
     refuses(&rt, b"BT", ReadFault::NoMark, 1, 0);

@@ -1,42 +1,23 @@
 // What is asked of a token.
-ghost use Rattle.std.specs.Prelude.{◌≡◌, true};
+ghost use Rattle.std.specs.Prelude.{◌≡◌, true, false};
 ghost use Rattle.pattern.specs.Letters.{letters_of};
-ghost use Rattle.lexer.specs.declared.Token.TheVariants.{Name};
+ghost use Rattle.lexer.specs.declared.Token.TheVariants.{Name, Number};
 ghost use Rattle.description.specs.Names.{same_text};
 ghost use Rattle.reader.specs.States.{NumberRead};
-ghost use Rattle.reader.specs.Words.{is, kind_number};
+ghost use Rattle.reader.specs.Words.{is};
 
 use super::Lexeme;
 use crate::faults::ReadFault;
 use lexer::Token;
 use pattern::names::ShortName;
 
-fn kind_number(token: Token) -> u32
-    ensures { result ≡ kind_number token }
-{
-    match token {
-        Token::LineEnd => 0,
-        Token::Number(_) => 1,
-        Token::HugeNumber => 2,
-        Token::Name => 3,
-        Token::Capitals => 4,
-        Token::Percent => 5,
-        Token::Dots => 6,
-        Token::Colon => 7,
-        Token::Open => 8,
-        Token::Close => 9,
-        Token::Comma => 10,
-        Token::Equals => 11,
-        Token::Minus => 12,
-        Token::End => 13,
-    }
-}
-
 impl Lexeme<'_> {
+    // Whether it is of that kind, which is no number.
     pub(crate) fn is(&self, kind: Token) -> bool
+        requires { is (Number 0) kind ≡ false }
         ensures { result ≡ is kind self.now.token }
     {
-        kind_number(self.token) == kind_number(kind)
+        self.token == kind
     }
 
     // The name that the bytes are.
@@ -44,7 +25,7 @@ impl Lexeme<'_> {
         requires { is Name self.now.token ≡ true }
         ensures { letters_of result ≡ self.now.text.now }
     {
-        let Some(name) = ShortName::new(self.text) else {
+        let Ok(name) = ShortName::try_from(self.text) else {
             unreachable()
         };
         name

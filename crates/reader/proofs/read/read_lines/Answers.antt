@@ -58,9 +58,9 @@ loop-token-smaller c =
     let a = c.in_ok-token in
     let text = ap (λ r. r.now) a.ensures.same_text in
     let s = stands c.loop-token.progress (awaits_of c.loop-token.expect) in
-    let next = stands c.step.new.self (awaits_of c.in-More.next) in
+    let next = stands c.step.new.self (awaits_of c.in-Some.next) in
     turn_falls l.text.now l.offset a.token a.place a.length c.next.new.self.text.now c.next.new.self.offset l.within (sym a.ensures.answer) text a.ensures.moved s next
-    (ap (λ x. outcome_of c.step.new.self (Ok x)) (sym c.in-More.is) ∙ c.in_ok-next.ensures ∙ ap (step s a.token a.place) (same_slice l.text.now c.next.new.self.text.now a.place a.length text))
+    (ap (λ x. outcome_of c.step.new.self (Ok x)) (sym c.in-Some.is) ∙ c.in_ok-next.ensures ∙ ap (step s a.token a.place) (same_slice l.text.now c.next.new.self.text.now a.place a.length text))
 
 pub loop-token-preserved : goal.loop-token-preserved
 loop-token-preserved c =
@@ -68,19 +68,19 @@ loop-token-preserved c =
     let a = c.in_ok-token in
     let text = ap (λ r. r.now) a.ensures.same_text in
     let s = stands c.loop-token.progress (awaits_of c.loop-token.expect) in
-    let next = stands c.step.new.self (awaits_of c.in-More.next) in
+    let next = stands c.step.new.self (awaits_of c.in-Some.next) in
     let inv = c.loop-token.invariant in
     let on = turn_again l.text.now l.offset a.token a.place a.length c.next.new.self.text.now c.next.new.self.offset l.within (sym a.ensures.answer) text a.ensures.moved s next
-    (ap (λ x. outcome_of c.step.new.self (Ok x)) (sym c.in-More.is) ∙ c.in_ok-next.ensures ∙ ap (step s a.token a.place) (same_slice l.text.now c.next.new.self.text.now a.place a.length text))
+    (ap (λ x. outcome_of c.step.new.self (Ok x)) (sym c.in-Some.is) ∙ c.in_ok-next.ensures ∙ ap (step s a.token a.place) (same_slice l.text.now c.next.new.self.text.now a.place a.length text))
     inv.0 _ inv.1 inv.2 inv.3 in
     (on.0, on.1, on.2, on.3, text ∙ inv.4)
 
-pub returns-in-Done : goal.returns-in-Done
-returns-in-Done c =
+pub returns-in-None : goal.returns-in-None
+returns-in-None c =
     let l = c.loop-token.lexer in
     let a = c.in_ok-token in
     let text = ap (λ r. r.now) a.ensures.same_text in
     let s = stands c.loop-token.progress (awaits_of c.loop-token.expect) in
     ends_here l.text.now l.offset s c.loop-token.invariant.0 a.token a.place a.length (sym a.ensures.answer) (outline_of c.step.new.self.description)
-    (ap (λ x. outcome_of c.step.new.self (Ok x)) (sym c.in-Done.is) ∙ c.in_ok-next.ensures ∙ ap (step s a.token a.place) (same_slice l.text.now c.next.new.self.text.now a.place a.length text))
+    (ap (λ x. outcome_of c.step.new.self (Ok x)) (sym c.in-None.is) ∙ c.in_ok-next.ensures ∙ ap (step s a.token a.place) (same_slice l.text.now c.next.new.self.text.now a.place a.length text))
     ∙ c.loop-token.invariant.2

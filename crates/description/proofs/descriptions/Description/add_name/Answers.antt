@@ -3,7 +3,8 @@ use Rattle.description.specs.Names.{declared_once, text_of}
 use Rattle.description.specs.Fits.{all_fit}
 use Rattle.description.specs.Descriptions.{names_of, rules_of}
 use Rattle.description.proofs.Names.{distinct_from, once_from, distinct_push, absent_unless}
-use Rattle.description.proofs.Fits.{all_more, pushed}
+use Rattle.description.proofs.Fits.{all_more}
+use Rattle.description.proofs.Rows.{pushed}
 use Rattle.description.proofs.descriptions.Description.add_name.Goals as goal
 
 pub invariant_of-self : goal.invariant_of-self

@@ -1,7 +1,8 @@
 use Rattle.std.proofs.Common.{◌≡◌, ◌∷◌, [], ◌++◌, length, sym, ap, ◌∙◌, arith, length-append}
 use Rattle.description.specs.Fits.{all_fit}
 use Rattle.description.specs.Descriptions.{names_of, rules_of}
-use Rattle.description.proofs.Fits.{all_push, fits_from, pushed}
+use Rattle.description.proofs.Fits.{all_push, fits_from}
+use Rattle.description.proofs.Rows.{pushed}
 use Rattle.description.proofs.descriptions.Description.add_rule.Goals as goal
 
 pub invariant_of-self : goal.invariant_of-self

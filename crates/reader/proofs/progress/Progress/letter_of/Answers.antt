@@ -1,8 +1,12 @@
-use Rattle.reader.proofs.Ruled.{letter_found, letter_none}
+use Rattle.std.proofs.Common.{rules, ◌≡◌, ◌∙◌}
+use Rattle.std.specs.Option.{option_map_or}
+use borrow.Author.Tests.{tests}
+use Rattle.description.specs.Descriptions.{names_of}
+use Rattle.description.specs.declared.rules.Nonterminal.{Nonterminal}
+use Rattle.reader.proofs.Ruled.{letter_lies}
 use Rattle.reader.proofs.progress.Progress.letter_of.Goals as goal
 
-pub returns-in-Some : goal.returns-in-Some
-returns-in-Some c = letter_found _ _ _ c.in-Some.ensures
-
-pub returns-in-None : goal.returns-in-None
-returns-in-None c = letter_none _ _ c.in-None.ensures
+pub returns : goal.returns
+returns c =
+    let mapped : c.map_or.result ≡ option_map_or (λ (n : Nonterminal). n.place.letter) c.name.result 0 = search (rules, tests) in
+    mapped ∙ letter_lies (names_of c.args.self.now.description) c.args.number c.name.result c.name.ensures
