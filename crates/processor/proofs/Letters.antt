@@ -1,5 +1,6 @@
 -- The letters of the operands that wait are capitals, so that each makes a PLACE.
-use Rattle.std.proofs.Common.{◌≡◌, ℕ, ◌<◌, ◌≤◌, List, [], ◌∷◌, length, get_or, Some, None, Option, sym, refl, ◌∙◌, subst, MatchOption}
+use Rattle.std.proofs.Common.{◌≡◌, ℕ, ◌<◌, ◌≤◌, List, [], ◌∷◌, length, get_or, Ok, Err, Some, None, Option, Result, MatchResult, sym, refl, ◌∙◌, subst, MatchOption}
+use Rattle.std.specs.Result.{result_ok}
 use Rattle.std.specs.List.{AllByRecursion}
 use Rattle.std.proofs.ByRecursion.{All-take, All-push, All-get_or}
 use Rattle.pattern.specs.declared.places.Place.{Place}
@@ -30,3 +31,8 @@ module _ (d : Design) (results : ResultsInPlaces d) where
   pub has_place : (w : List ℕ) (code : List Act) → waiting_after_all d.fixed_part [] code ≡ w → (i a : ℕ) → i < length w → a ≡ get_or w i 0 → (r : Option Place) → MatchOption r (IsCapital a → ⊥) (λ p. p.letter ≡ a) → MatchOption r (length w ≤ i) (λ p. (i < length w) × (p.letter ≡ get_or w i 0))
   has_place w code waits i a there at None none = absurd (none (subst IsCapital (sym at) (letter_capital w code waits i there)))
   has_place w code waits i a there at (Some p) is = (there, is ∙ at)
+
+-- the PLACE that a letter is made into, if it is
+pub place_if_made : {E : Type 0} (a : ℕ) (r : Result Place E) → MatchResult r (λ p. p.letter ≡ a) (λ _. IsCapital a → ⊥) → MatchOption (result_ok r) (IsCapital a → ⊥) (λ p. p.letter ≡ a)
+place_if_made a (Ok p) is = is
+place_if_made a (Err e) none = none

@@ -1,6 +1,7 @@
 // Why a simulator refuses a list of words, and a processor an instruction or its number.
-ghost use Rattle.std.specs.Prelude.{◌≡◌};
 ghost use Rattle.processor.specs.Faults.{simulator_number, simulator_place};
+
+use fault::Fault;
 
 // A first word cannot be carried out as it stands.
 #[derive(Clone, Copy, Debug, PartialEq, Eq)]
@@ -11,7 +12,7 @@ pub struct Misplaced;
 pub struct UnknownNumber;
 
 // All but the first hold the index of the instruction's first word.
-#[derive(Clone, Copy, Debug, PartialEq)]
+#[derive(Clone, Copy, Debug, PartialEq, Eq)]
 pub enum SimulatorFault {
     // Not exactly 64 variables; holds how many.
     WrongCount(usize),
@@ -23,10 +24,12 @@ pub enum SimulatorFault {
     PayloadBarred(usize),
 }
 
-impl SimulatorFault {
-    pub fn number(self) -> u32
-        ensures { result ≡ simulator_number self }
-    {
+impl Fault for SimulatorFault {
+    ghost number_of = { simulator_number };
+
+    ghost place_of = { simulator_place };
+
+    fn number(self) -> u32 {
         match self {
             SimulatorFault::UnknownOpcode(_) => 31,
             SimulatorFault::Misplaced(_) => 32,
@@ -35,9 +38,7 @@ impl SimulatorFault {
         }
     }
 
-    pub fn place(self) -> usize
-        ensures { result ≡ simulator_place self }
-    {
+    fn place(self) -> usize {
         match self {
             SimulatorFault::UnknownOpcode(place)
             | SimulatorFault::Misplaced(place)

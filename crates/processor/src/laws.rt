@@ -5,15 +5,11 @@ ghost use Rattle.processor.specs.Meanings.{EncodedRuns};
 use crate::Processor;
 
 // Code that a board can take, written as words, is never refused by a simulation, and does what the meanings of its operations say.
-pub fn encoded_runs() -> bool
+pub fn encoded_runs()
     ensures { EncodedRuns }
-{
-    true
-}
+{}
 
 // What a board has encoded the simulator never refuses with 64 variables, and it leaves the end setting.
-pub fn encoded_is_run<P: Processor>() -> bool
+pub fn encoded_is_run<P: Processor>()
     ensures { EncodedIsRun P.Processor }
-{
-    true
-}
+{}

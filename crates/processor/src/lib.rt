@@ -22,8 +22,6 @@ pub mod simulation;
 // The opcode of a store, which no instruction has.
 const STORE: u32 = 63;
 
-const LAST_VARIABLE: u32 = 63;
-
 // The instructions of a board and what carries them out. A value holds the processor's own words, such as a stack or registers.
 pub trait Processor: Copy {
     ghost design: { Design };

@@ -6,10 +6,9 @@ ghost use Rattle.processor.specs.Faults.{simulator_number, simulator_place};
 ghost use Rattle.processor.specs.Simulations.{entry_of, operation_entry, GoesOn, Stops, Simulated, SimulationDenied};
 
 use crate::faults::SimulatorFault;
-use crate::{LAST_VARIABLE, Processor, STORE};
+use crate::{Processor, STORE};
 use board::instructions::Instruction;
-
-const VARIABLES: usize = 64;
+use tree::nodes::{LAST_VARIABLE, VARIABLES};
 
 // A processor, and what it has made of the variables so far.
 #[derive(Drop)]

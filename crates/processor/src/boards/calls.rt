@@ -14,6 +14,7 @@ use crate::simulation::simulate;
 use board::Board;
 use board::faults::{BoardFault, RunFault};
 use board::instructions::Instruction;
+use fault::Fault;
 use pattern::names::ShortName;
 use pattern::places::Place;
 use rows::Row;
@@ -105,7 +106,7 @@ impl<P: Processor> Board for CodedBoard<'_, P> {
 
     fn waiting_place(&self, depth: usize) -> Option<Place> {
         let letter = self.waiting.as_slice().get(depth)?;
-        Place::new(*letter)
+        Place::try_from(*letter).ok()
     }
 
     fn issue(&mut self, opcode: u32, first: u32, second: u32) -> Result<(), BoardFault>
@@ -134,6 +135,7 @@ impl<P: Processor> Board for CodedBoard<'_, P> {
     }
 
     fn run(&self, variables: &mut [u32]) -> Result<(), RunFault> {
+        // As a `map_err` the proof of what is promised of the answer does not close.
         match simulate::<P>(self.words(), variables) {
             Ok(()) => Ok(()),
             Err(fault) => Err(RunFault::WrongCount(fault.place())),

@@ -5,10 +5,11 @@ ghost use Rattle.processor.specs.Designs.{first_word};
 ghost use Rattle.processor.specs.Requests.{AllowedBy, Emits, EmitsStore, IssueRefused, StoreRefused};
 
 use super::{Emission, Request, Room};
-use crate::{LAST_VARIABLE, Processor, STORE};
+use crate::{Processor, STORE};
 use board::faults::BoardFault;
 use board::instructions::Instruction;
 use rows::Row;
+use tree::nodes::LAST_VARIABLE;
 
 // Whether a result above so many operands would lie beyond the depth limit.
 fn beyond_limit<P: Processor>(below: usize) -> bool

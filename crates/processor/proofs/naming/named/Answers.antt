@@ -1,4 +1,5 @@
 use Rattle.std.proofs.Common.{◌≡◌, ◌<◌, Some, sym, ap, ◌∙◌, ⊎_elim, arith}
+use Rattle.std.specs.Cmp.Lexicographic.{bytes_decides}
 use Rattle.std.proofs.lemmas.Bool.{cases_lt, both_ways}
 use Rattle.pattern.specs.Letters.{letters_of}
 use Rattle.board.specs.Machines.{operation_of}
@@ -18,7 +19,7 @@ loop-opcode-preserved g c n o l e h =
       | in-Some+else-eq w ↦
           let found = w.in-Some.ensures in
           let spelt : letters_of w.in-Some.instruction.mnemonic ≡ letters_of c.args.mnemonic.now = found.2.mnemonic_is ∙ ap (λ x. x.letters) (some_same found.1 here) ∙ h in
-          both_ways _ w.if-eq.false (w.eq.ensures.same.1 spelt)
+          both_ways _ w.if-eq.false (w.eq.ensures ∙ (bytes_decides _ _).1 spelt)
       | in_default w ↦ none_some w.in_default.ensures here
     ])
     (cases_lt n k)
@@ -28,7 +29,7 @@ returns-then-eq g c =
     let found = c.in-Some.ensures in
     let m = g.P.Processor.design.fixed_part in
     let is = found_among m.operations c.loop-opcode.opcode found.0 found.1 in
-    (found.0, has_among found.0 m.operations is.0, sym found.2.mnemonic_is ∙ c.eq.ensures.same.0 c.if-eq.true, found.2)
+    (found.0, has_among found.0 m.operations is.0, sym found.2.mnemonic_is ∙ (bytes_decides _ _).0 (sym c.eq.ensures ∙ c.if-eq.true), found.2)
 
 pub returns : goal.returns
 returns g c =

@@ -35,7 +35,7 @@ unreachable-requires-in_default-push g c =
     let n = c.in_ok-instruction.instruction.meaning.operands in
     let w = c.args.self.now.waiting.now in
     let full = c.in_default-push.ensures in
-    omega (arith, full.1, ap length c.in-Ok-try_from.ensures, length-take (length w - n) w, arity_is c.in_ok-instruction.instruction found.by found.is, found.allowed.shallow, g.P.Processor.sound.lawful_machine.shallow)
+    omega (arith, full.1, ap length c.in-Ok-try_from.ensures.0, length-take (length w - n) w, arity_is c.in_ok-instruction.instruction found.by found.is, found.allowed.shallow, g.P.Processor.sound.lawful_machine.shallow)
 
 pub returns : goal.returns
 returns g c =
@@ -52,6 +52,6 @@ returns g c =
     record {
       by = o;
       allowed = found.allowed;
-      words_are = c.in-Ok.ensures ∙ (λ j. take (1 + leaves j) (first j ∷ c.args.request.first ∷ [])) ∙ front_words (leaf_total o) (first_word d op (length w - arity o) (arity o)) c.args.request.first c.args.request.second few;
-      waits = c.in-Ok-push.ensures ∙ (λ j. c.in-Ok-try_from.ensures j ++ found.is.result_is j ∷ []) ∙ ap (λ n. take (length w - n) w ++ o.result_letter ∷ []) operands;
+      words_are = c.in-Ok.ensures.0 ∙ (λ j. take (1 + leaves j) (first j ∷ c.args.request.first ∷ [])) ∙ front_words (leaf_total o) (first_word d op (length w - arity o) (arity o)) c.args.request.first c.args.request.second few;
+      waits = c.in-Ok-push.ensures ∙ (λ j. c.in-Ok-try_from.ensures.0 j ++ found.is.result_is j ∷ []) ∙ ap (λ n. take (length w - n) w ++ o.result_letter ∷ []) operands;
     }
