@@ -1,11 +1,9 @@
 -- When an issue and a store are allowed, by the checks in their order.
-use Rattle.std.proofs.Common.{◌≡◌, ℕ, zero, suc, ◌+◌, ◌-◌, ◌<◌, ◌≤◌, Bool, true, false, leb, List, [], ◌∷◌, length, take, Some, None, Option, sym, refl, ap, ◌∙◌, subst, arith, length-drop}
+use Rattle.std.proofs.Common.{◌≡◌, ℕ, zero, suc, ◌+◌, ◌-◌, ◌<◌, ◌≤◌, Bool, true, false, List, [], ◌∷◌, length, take, Some, None, Option, sym, refl, ap, ◌∙◌, subst, arith, length-drop}
 use Rattle.std.specs.Str.{bytes_eq}
 use Rattle.std.proofs.lemmas.Slice.Eq.{bytes_eq-Decides}
-use Rattle.std.proofs.lemmas.Bool.{and_parts, leb-true, both_ways}
+use Rattle.std.proofs.lemmas.Bool.{both_ways}
 use Rattle.tree.specs.Refusals.{turn_of, RefusedBy, GrantedBy}
-use Rattle.pattern.specs.declared.patterns.Pattern.{Pattern}
-use Rattle.pattern.specs.Items.{count_of_operands, count_of_leaves}
 use Rattle.pattern.specs.Patterns.{items_of}
 use Rattle.board.specs.declared.instructions.Instruction.{Instruction}
 use Rattle.board.specs.Machines.{Machine, Operation, operation_of, operand_letters, operation_leaves, arity, leaf_total}
@@ -20,14 +18,6 @@ some_same {X} {x} {y} p q = let e : Some x ≡ Some y = sym p ∙ q in cc
 
 pub none_some : {X : Type 0} {x : X} {o : Option X} → o ≡ None → o ≡ Some x → ⊥
 none_some {X} {x} p q = let e : None ≡ Some x = sym p ∙ q in let z : ◌≡◌ {A = ℕ} 0 1 = cc in omega arith
-
--- a pattern has at most two leaves
-pub leaves_limited : (p : Pattern) → p.leaves ≤ 2
-leaves_limited p =
-    let one = and_parts (leb (length (items_of p)) 7) _ p.formed in
-    let two = and_parts (leb (count_of_operands (items_of p)) 2) _ one.1 in
-    let three = and_parts (leb (count_of_leaves (items_of p)) 2) _ two.1 in
-    omega (arith, leb-true (count_of_leaves (items_of p)) 2 three.0, p.tallied)
 
 -- an instruction's operands and leaves are its operation's
 module _ (i : Instruction) (o : Operation) (is : Denotes i o) where

@@ -1,7 +1,7 @@
 use Rattle.std.proofs.Common.{[], ◌∷◌, sym, arith}
 use Rattle.std.proofs.lemmas.Bool.{ltb-true, ltb-false}
 use Rattle.board.specs.Machines.{operand_letters}
-use Rattle.processor.proofs.Judging.{arity_is, leaf_total_is, waits_from, lacks_from, admits_at, leaves_limited, enough_wait, refused_operands, refused_payload, refused_depth, refused_room}
+use Rattle.processor.proofs.Judging.{arity_is, leaf_total_is, waits_from, lacks_from, admits_at, enough_wait, refused_operands, refused_payload, refused_depth, refused_room}
 use Rattle.processor.proofs.requests.Room.allowed.Goals as goal
 
 pub returns-then-not-operands_wait : goal.returns-then-not-operands_wait
@@ -28,9 +28,6 @@ overflow_sub-depth g c =
     let o = found.0 in
     let enough = enough_wait w (operand_letters o) (waits_from i o found.2 w (sym c.if-not-operands_wait.ensures)) in
     omega (arith, enough, arity_is i o found.2)
-
-pub lacks_room-requires : goal.lacks_room-requires
-lacks_room-requires g c = leaves_limited c.in-Some.instruction.meaning
 
 pub returns-then-beyond_limit : goal.returns-then-beyond_limit
 returns-then-beyond_limit g c =

@@ -1,7 +1,7 @@
 use Rattle.std.proofs.Common.{◌≡◌, ◌+◌, ◌-◌, ◌≤◌, [], ◌∷◌, ◌++◌, length, take, ap, ◌∙◌, arith, length-take}
 use Rattle.board.specs.Machines.{operand_letters, arity, leaf_total}
 use Rattle.processor.specs.Designs.{first_word}
-use Rattle.processor.proofs.Judging.{arity_is, leaf_total_is, leaves_limited, enough_wait, front_words}
+use Rattle.processor.proofs.Judging.{arity_is, leaf_total_is, enough_wait, front_words}
 use Rattle.processor.proofs.requests.Room.judge_issue.Goals as goal
 
 pub overflow_sub-below : goal.overflow_sub-below
@@ -9,14 +9,6 @@ overflow_sub-below g c =
     let found = c.in_ok-instruction.ensures in
     let o = found.by in
     omega (arith, enough_wait c.args.self.now.waiting.now (operand_letters o) found.allowed.operands_wait, arity_is c.in_ok-instruction.instruction o found.is)
-
-pub first_word-first-requires : goal.first_word-first-requires
-first_word-first-requires g c =
-    let found = c.in_ok-instruction.ensures in
-    g.P.Processor.sound.opcodes_short c.args.request.opcode found.by found.allowed.is
-
-pub overflow_add-all : goal.overflow_add-all
-overflow_add-all g c = let few = leaves_limited c.in_ok-instruction.instruction.meaning in omega arith
 
 pub slice_bounds-all-end : goal.slice_bounds-all-end
 slice_bounds-all-end g c =
