@@ -1,14 +1,12 @@
 -- Numbers of texts among names, and that no name is declared twice.
-use Rattle.std.proofs.Common.{◌≡◌, ℕ, zero, suc, ◌≤◌, true, false, cond, not, ◌&&◌, eqb, nat_eq, List, [], ◌∷◌, ◌++◌, length, is_some, Some, None, Option, sym, refl, ap, ◌∙◌, subst, ⊎_elim, arith, add-one}
+use Rattle.std.proofs.Common.{◌≡◌, ℕ, suc, true, false, cond, not, ◌&&◌, eqb, nat_eq, List, [], ◌∷◌, ◌++◌, is_some, Some, None, Option, sym, refl, ap, ◌∙◌, subst, ⊎_elim, arith, add-one}
 use Rattle.std.proofs.ByRecursion.{All-append}
 use Rattle.std.specs.List.{position_from}
 use Rattle.std.specs.Cmp.Lexicographic.{pointwise}
 use Rattle.std.proofs.lemmas.Bool.{and_from, and_parts, eq-eqb, eqb-true, cond-true, cond-false, cases_Bool, both_ways, not-true}
 use Rattle.description.specs.declared.rules.Nonterminal.{Nonterminal}
-use Rattle.std.specs.Option.{MatchOption, option_map_or}
-use Rattle.description.specs.Descriptions.{ItemAt}
 use Rattle.description.specs.Laws.{Absent, Distinct}
-use Rattle.description.specs.Names.{same_text, text_of, number_from, number_of_text, declared_once, place_letter}
+use Rattle.description.specs.Names.{same_text, text_of, number_from, number_of_text, declared_once}
 
 pub same_text_refl : (xs : List ℕ) → same_text xs xs ≡ true
 same_text_refl [] = refl
@@ -79,18 +77,3 @@ pub distinct_push : (ns : List Nonterminal) (n : Nonterminal) → Distinct ns �
 distinct_push [] n d a = (tt, tt)
 distinct_push (m ∷ ns) n d a =
     (All-append (λ k. text_of k ≡ text_of m → ⊥) ns (n ∷ []) d.0 (λ e. a.0 (sym e), tt), distinct_push ns n d.1 a.1)
-
--- where the name of a number lies
-pub letter_found : (ns : List Nonterminal) (i : ℕ) (n : Nonterminal) → ItemAt ns i n → n.place.letter ≡ place_letter ns i
-letter_found [] i n h = absurd (omega (arith, h.within))
-letter_found (m ∷ ns) zero n h = ap (λ (k : Nonterminal). k.place.letter) (sym (h.is m))
-letter_found (m ∷ ns) (suc i) n h = letter_found ns i n (record { within = omega (arith, h.within); is = h.is })
-
-pub letter_none : (ns : List Nonterminal) (i : ℕ) → length ns ≤ i → 0 ≡ place_letter ns i
-letter_none [] i h = refl
-letter_none (n ∷ ns) zero h = absurd (omega arith)
-letter_none (n ∷ ns) (suc i) h = letter_none ns i (omega arith)
-
-pub letter_is : (ns : List Nonterminal) (i : ℕ) (o : Option Nonterminal) → MatchOption o (length ns ≤ i) (λ n. ItemAt ns i n) → option_map_or (λ n. n.place.letter) o 0 ≡ place_letter ns i
-letter_is ns i None h = letter_none ns i h
-letter_is ns i (Some n) h = letter_found ns i n h

@@ -1,7 +1,6 @@
 -- A rule that has been read is taken by the description.
 use Rattle.std.proofs.Common.{◌≡◌, ℕ, zero, suc, ◌+◌, ◌≤◌, true, cond, ◌&&◌, eqb, ltb, leb, List, [], ◌∷◌, ◌++◌, map, length, Some, None, Option, sym, refl, ap, ◌∙◌, subst, ap₂, arith}
 use Rattle.std.specs.List.{AllByRecursion}
-use Rattle.std.specs.Option.{MatchOption, option_map_or}
 use Rattle.std.proofs.lemmas.List.{length-map, map_push}
 use Rattle.std.proofs.lemmas.Bool.{and_from, and_parts, lt-ltb, le-ltb, both_ways, cond-true, cond-false}
 use Rattle.lexer.specs.declared.Token.{Token}
@@ -18,23 +17,18 @@ use Rattle.description.specs.declared.refusals.RuleRefusal.TheVariants.{TooMany,
 use Rattle.description.specs.Names.{place_letter}
 use Rattle.description.specs.Rules.{only_operand}
 use Rattle.description.specs.Fits.{operand_below, operands_below, chain_at_place, may_emit}
-use Rattle.description.specs.Descriptions.{names_of, rules_of, start_of, ItemAt, RuleAdded, RuleDenied}
+use Rattle.description.specs.Descriptions.{names_of, rules_of, start_of, RuleAdded, RuleDenied}
 use Rattle.description.specs.Outlines.{part_of, declaration_of, production_of, emitted}
-use Rattle.description.proofs.Names.{letter_is}
 use Rattle.reader.specs.declared.progress.Progress.{Progress}
 use Rattle.reader.specs.Words.{is_number, value_in}
 use Rattle.reader.specs.Reading.{Draft, Awaits, Outcome, lies, renames, operands_among, leaves_among, within_limits, number_upto, rule_read, rule_end, cycles_number, goes, fails}
 use Rattle.reader.specs.States.{declarations_of, stands, production_from}
 use Rattle.reader.specs.Soundness.{OperandIn, Fitting, MayEmit, parts_in, whole_parts}
 
-lies_is : (ns : List Nonterminal) (i : ℕ) → lies (map declaration_of ns) i ≡ place_letter ns i
+pub lies_is : (ns : List Nonterminal) (i : ℕ) → lies (map declaration_of ns) i ≡ place_letter ns i
 lies_is [] i = refl
 lies_is (n ∷ ns) zero = refl
 lies_is (n ∷ ns) (suc i) = lies_is ns i
-
--- where the name of a number lies
-pub letter_lies : (ns : List Nonterminal) (i : ℕ) (o : Option Nonterminal) → MatchOption o (length ns ≤ i) (λ n. ItemAt ns i n) → option_map_or (λ n. n.place.letter) o 0 ≡ lies (map declaration_of ns) i
-letter_lies ns i o h = letter_is ns i o h ∙ sym (lies_is ns i)
 
 renames_is : (ns : List Nonterminal) (a : ℕ) (xs : List Item) → renames (map declaration_of ns) a (map part_of xs) ≡ chain_at_place ns a (only_operand xs)
 renames_is ns a [] = refl

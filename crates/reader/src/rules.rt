@@ -2,7 +2,7 @@
 ghost use Rattle.std.specs.Prelude.{◌≡◌, ◌≤◌, true};
 ghost use Rattle.pattern.specs.Items.{pattern_items};
 ghost use Rattle.description.specs.Outlines.{emitted, production_of};
-ghost use Rattle.reader.specs.Reading.{lies, renames, mnemonic_word, size_number, cycles_number};
+ghost use Rattle.reader.specs.Reading.{renames, mnemonic_word, size_number, cycles_number};
 ghost use Rattle.reader.specs.States.{draft_of, declarations_of, stands, stepped, outcome_of, production_from};
 ghost use Rattle.reader.specs.Soundness.{Sound};
 
@@ -37,21 +37,12 @@ fn rule_of(draft: Sketch, mnemonic: Option<ShortName>, size: u32, cycles: u32) -
 }
 
 impl Progress {
-    // The letter of the PLACE of a name.
-    fn letter_of(&self, number: u8) -> u8
-        ensures { result ≡ lies (declarations_of self.now) number }
-    {
-        self.description
-            .name(number as usize)
-            .map_or(0, |nonterminal| nonterminal.place.letter)
-    }
-
     // Whether the pattern is one name of the same PLACE as the left name.
     fn renames(&self, draft: &Sketch) -> bool
         ensures { result ≡ renames (declarations_of self.now) (draft_of draft.now).left_name (draft_of draft.now).so_far }
     {
         match draft.items.as_slice() {
-            [Item::Operand(from)] => self.letter_of(draft.left) == self.letter_of(*from),
+            [Item::Operand(from)] => self.description.lie_together(draft.left, *from),
             _ => false,
         }
     }

@@ -1,5 +1,5 @@
 // What a description is asked and told.
-ghost use Rattle.std.specs.Prelude.{◌≡◌, ◌-◌, ◌<◌, ◌≤◌, ◌⊎◌, [], length, is_some, MatchOption, MatchResult};
+ghost use Rattle.std.specs.Prelude.{◌≡◌, ◌==◌, ◌-◌, ◌<◌, ◌≤◌, ◌⊎◌, [], length, is_some, MatchOption, MatchResult};
 ghost use Rattle.pattern.specs.Patterns.{items_of};
 ghost use Rattle.pattern.specs.Letters.{letters_of};
 ghost use Rattle.description.specs.Descriptions.{names_of, rules_of, start_of, ItemAt, NameAdded, NameDenied, RuleAdded, RuleDenied, StartSet};
@@ -12,6 +12,7 @@ use crate::rules::{Nonterminal, Rule};
 use pattern::items::Item;
 use pattern::names::ShortName;
 use pattern::patterns::Pattern;
+use pattern::places::Place;
 use rows::Row;
 
 fn operand_below(count: usize, item: Item) -> bool
@@ -106,23 +107,14 @@ impl Description {
         self.rules.push(rule).map_err(|_| RuleRefusal::TooMany)
     }
 
-    // The letter of a name's PLACE, or 0 where there is no such name.
-    fn letter_of(&self, number: u8) -> u8
-        ensures { result ≡ place_letter (names_of self.now) number }
-    {
-        self.name(number as usize)
-            .map_or(0, |name| name.place.letter)
-    }
-
     // Whether the rule emits an instruction, or is a chain rule between names of equal PLACE.
     fn may_emit(&self, rule: &Rule) -> bool
         ensures { result ≡ may_emit (names_of self.now) rule.now rule.now.mnemonic }
     {
-        let left = self.letter_of(rule.left);
         rule.mnemonic.is_some()
             || rule
                 .chain_from()
-                .is_some_and(|from| self.letter_of(from) == left)
+                .is_some_and(|from| self.lie_together(rule.left, from))
     }
 
     // The name of a number, from 0.
@@ -130,6 +122,19 @@ impl Description {
         ensures { MatchOption result (length (names_of self.now) ≤ number) (λ n. ItemAt (names_of self.now) number n) }
     {
         self.names.as_slice().get(number).copied()
+    }
+
+    fn place_of(&self, number: u8) -> Option<Place>
+        ensures { MatchOption result (length (names_of self.now) ≤ number) (λ p. p.letter ≡ place_letter (names_of self.now) number) }
+    {
+        self.name(number as usize).map(|name| name.place)
+    }
+
+    // Whether the values of two names lie in one PLACE, or neither name is declared.
+    pub fn lie_together(&self, first: u8, second: u8) -> bool
+        ensures { result ≡ (place_letter (names_of self.now) first == place_letter (names_of self.now) second) }
+    {
+        self.place_of(first) == self.place_of(second)
     }
 
     // The number of the start name; none where there is no name.

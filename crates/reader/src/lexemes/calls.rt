@@ -34,7 +34,7 @@ impl Lexeme<'_> {
     pub(crate) fn spells(&self, letters: &[u8]) -> bool
         ensures { result ≡ same_text self.now.text.now letters.now }
     {
-        *self.text == *letters
+        self.text == letters
     }
 
     // The number, if it is at most `limit`.
