@@ -44,7 +44,7 @@ impl Entry for Rule {
 
     fn blank() -> Rule {
         let (Ok(pattern), Some(figures)) = (
-            Pattern::try_from(&[Item::Variable][..]),
+            Pattern::try_from([Item::Variable]),
             Figures::new(0, 0),
         ) else {
             unreachable()

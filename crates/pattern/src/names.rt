@@ -10,7 +10,7 @@ mod calls;
 pub const NAME_LIMIT: usize = 8;
 
 // 1 to 8 lower-case letters or digits, a letter first.
-#[derive(Clone, Copy, PartialEq)]
+#[derive(Clone, Copy, PartialEq, Eq)]
 pub struct ShortName {
     pub letters: Row<u8, NAME_LIMIT>,
     ghost formed: { short_name letters ≡ true },

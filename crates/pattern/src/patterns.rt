@@ -15,7 +15,7 @@ pub const OPERAND_LIMIT: usize = 2;
 pub const LEAF_LIMIT: usize = 2;
 
 // 1 to 7 items in reading order, an operator before its parts, with the numbers of their operands and of their leaves.
-#[derive(Clone, Copy, PartialEq)]
+#[derive(Clone, Copy, PartialEq, Eq)]
 pub struct Pattern {
     pub items: Row<Item, ITEM_LIMIT>,
     pub operands: usize,

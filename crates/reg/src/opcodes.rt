@@ -21,7 +21,7 @@ pub(crate) const DATA: u8 = b'D';
 pub(crate) const ADDRESS: u8 = b'A';
 
 // What an instruction does; each has its number and its mnemonic.
-#[derive(Clone, Copy)]
+#[derive(Clone, Copy, Debug, PartialEq, Eq)]
 pub enum Opcode {
     Ldi,
     Ldq,
@@ -147,28 +147,28 @@ impl Opcode {
         let add = Item::Binary(Binary::Add);
         let shl = Item::Binary(Binary::Shl);
         match self {
-            Opcode::Ldi => Pattern::new(&[Item::Constant(Interval::new(0, u32::MAX)?)]),
-            Opcode::Ldq => Pattern::new(&[Item::Constant(Interval::new(0, 255)?)]),
-            Opcode::Ldv => Pattern::new(&[Item::Variable]),
-            Opcode::Pair(operator) => Pattern::new(&[Item::Binary(operator), data, data]),
-            Opcode::Single(operator) => Pattern::new(&[Item::Unary(operator), data]),
+            Opcode::Ldi => Pattern::try_from([Item::Constant(Interval::new(0, u32::MAX)?)]).ok(),
+            Opcode::Ldq => Pattern::try_from([Item::Constant(Interval::new(0, 255)?)]).ok(),
+            Opcode::Ldv => Pattern::try_from([Item::Variable]).ok(),
+            Opcode::Pair(operator) => Pattern::try_from([Item::Binary(operator), data, data]).ok(),
+            Opcode::Single(operator) => Pattern::try_from([Item::Unary(operator), data]).ok(),
             Opcode::Addi => {
                 let constant = Item::Constant(Interval::new(0, u32::MAX)?);
-                Pattern::new(&[add, data, constant])
+                Pattern::try_from([add, data, constant]).ok()
             }
             Opcode::Shli => {
                 let constant = Item::Constant(Interval::new(0, 31)?);
-                Pattern::new(&[shl, data, constant])
+                Pattern::try_from([shl, data, constant]).ok()
             }
-            Opcode::Mova => Pattern::new(&[data]),
-            Opcode::Movd => Pattern::new(&[address]),
+            Opcode::Mova => Pattern::try_from([data]).ok(),
+            Opcode::Movd => Pattern::try_from([address]).ok(),
             Opcode::Lea => {
                 let constant = Item::Constant(Interval::new(0, 3)?);
-                Pattern::new(&[add, address, shl, data, constant])
+                Pattern::try_from([add, address, shl, data, constant]).ok()
             }
             Opcode::Adda => {
                 let constant = Item::Constant(Interval::new(0, 255)?);
-                Pattern::new(&[add, address, constant])
+                Pattern::try_from([add, address, constant]).ok()
             }
         }
     }
@@ -179,8 +179,8 @@ impl Opcode {
     {
         Some(Instruction {
             opcode: u32::from(self),
-            mnemonic: ShortName::new(self.mnemonic())?,
-            result: Place::new(self.result())?,
+            mnemonic: ShortName::try_from(self.mnemonic()).ok()?,
+            result: Place::try_from(self.result()).ok()?,
             meaning: self.meaning()?,
         })
     }

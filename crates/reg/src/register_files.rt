@@ -110,7 +110,7 @@ impl Processor for RegisterProcessor {
     }
 
     fn store_place() -> Place {
-        let Some(place) = Place::new(DATA) else {
+        let Ok(place) = Place::try_from(DATA) else {
             unreachable()
         };
         place
@@ -150,7 +150,7 @@ impl Processor for RegisterProcessor {
             return Err(Misplaced);
         }
         let depth = result_depth(first);
-        let operands = self.operands(&meaning.items[..meaning.len], depth);
+        let operands = self.operands(meaning.items.as_slice(), depth);
         let value = meaning.value(operands.as_slice(), payloads, setting);
         self.set_register(instruction.result.letter, depth, value);
         Ok(())

@@ -105,6 +105,10 @@ impl<T: Entry + PartialEq, const N: usize> PartialEq for Row<T, N> {
     }
 }
 
+impl<T: Entry + Eq, const N: usize> Eq for Row<T, N> {
+    ghost laws = { Prim.search (comparing, rules) };
+}
+
 // More entries than a row holds.
 #[derive(Clone, Copy, Debug, PartialEq, Eq)]
 pub struct TooLong;

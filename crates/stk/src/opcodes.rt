@@ -17,7 +17,7 @@ use processor::faults::UnknownNumber;
 const S: u8 = b'S';
 
 // The table's lines; those with two operands and those with one go by their operators.
-#[derive(Clone, Copy)]
+#[derive(Clone, Copy, Debug, PartialEq, Eq)]
 pub enum Opcode {
     Push,
     Load,
@@ -113,23 +113,33 @@ impl Opcode {
     {
         let operand = Item::Operand(S);
         match self {
-            Opcode::Push => Pattern::new(&[Item::Constant(Interval::new(0, u32::MAX)?)]),
-            Opcode::Load => Pattern::new(&[Item::Variable]),
-            Opcode::Pair(operator) => Pattern::new(&[Item::Binary(operator), operand, operand]),
-            Opcode::Single(operator) => Pattern::new(&[Item::Unary(operator), operand]),
-            Opcode::Inc => Pattern::new(&[
+            Opcode::Push => Pattern::try_from([Item::Constant(Interval::new(0, u32::MAX)?)]).ok(),
+            Opcode::Load => Pattern::try_from([Item::Variable]).ok(),
+            Opcode::Pair(operator) => Pattern::try_from([
+                Item::Binary(operator),
+                operand,
+                operand,
+            ]).ok(),
+            Opcode::Single(operator) => Pattern::try_from([Item::Unary(operator), operand]).ok(),
+            Opcode::Inc => Pattern::try_from([
                 Item::Binary(Binary::Add),
                 operand,
                 Item::Constant(Interval::new(1, 1)?),
-            ]),
-            Opcode::Addv => Pattern::new(&[Item::Binary(Binary::Add), operand, Item::Variable]),
-            Opcode::Madd => Pattern::new(&[
+            ])
+            .ok(),
+            Opcode::Addv => Pattern::try_from([
+                Item::Binary(Binary::Add),
+                operand,
+                Item::Variable,
+            ]).ok(),
+            Opcode::Madd => Pattern::try_from([
                 Item::Binary(Binary::Add),
                 operand,
                 Item::Binary(Binary::Mul),
                 operand,
                 Item::Constant(Interval::new(0, u32::MAX)?),
-            ]),
+            ])
+            .ok(),
         }
     }
 
@@ -139,8 +149,8 @@ impl Opcode {
     {
         Some(Instruction {
             opcode: u32::from(self),
-            mnemonic: ShortName::new(self.mnemonic())?,
-            result: Place::new(S)?,
+            mnemonic: ShortName::try_from(self.mnemonic()).ok()?,
+            result: Place::try_from(S).ok()?,
             meaning: self.meaning()?,
         })
     }

@@ -47,3 +47,13 @@ impl TryFrom<&[Item]> for Pattern {
         })
     }
 }
+
+impl<const N: usize> TryFrom<[Item; N]> for Pattern {
+    type Error = MalformedPattern;
+
+    ghost try_from_gives = { λ items r. MatchResult r (λ p. items_of p ≡ items) (λ _. pattern_items items ≡ false) };
+
+    fn try_from(items: [Item; N]) -> Result<Pattern, MalformedPattern> {
+        Pattern::try_from(&items[..])
+    }
+}

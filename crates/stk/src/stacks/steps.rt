@@ -4,15 +4,13 @@ ghost use Rattle.stk.specs.Designs.{stk_design};
 ghost use Rattle.stk.specs.Stacks.{stacked};
 ghost use Rattle.stk.specs.Soundness.{stk_sound, stk_result_places};
 
-use super::ValueStack;
+use super::{DEPTH_LIMIT, ValueStack};
 use crate::opcodes::Opcode;
 use board::instructions::Instruction;
 use pattern::places::Place;
 use processor::Processor;
 use processor::faults::Misplaced;
 use rows::Row;
-
-const DEPTH_LIMIT: usize = 64;
 
 // Carries out STK's instructions on the stack.
 impl Processor for ValueStack {
@@ -29,7 +27,7 @@ impl Processor for ValueStack {
     }
 
     fn store_place() -> Place {
-        let Some(place) = Place::new(b'S') else {
+        let Ok(place) = Place::try_from(b'S') else {
             unreachable()
         };
         place

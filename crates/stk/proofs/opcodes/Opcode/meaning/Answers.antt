@@ -10,20 +10,20 @@ use Rattle.stk.proofs.opcodes.Opcode.meaning.Goals as goal
 pub returns-in_ok-new-in-Push : goal.returns-in_ok-new-in-Push
 returns-in_ok-new-in-Push c =
     let range = c.in_ok-new-in-Push.ensures in
-    pattern_made c.new-in-Push.result _ _ c.new-in-Push.ensures refl
+    pattern_made c.ok.result c.try_from.result _ _ c.ok.ensures.value c.try_from.ensures refl
     (ap (λ i. Constant i ∷ []) (same_interval c.in_ok-new-in-Push.field-0 every_word range.0 range.1)
     ∙ sym (ap (λ o. reading (meaning_of o)) c.in-Push.is))
 
 pub returns-in_ok-new-in-Inc : goal.returns-in_ok-new-in-Inc
 returns-in_ok-new-in-Inc c =
     let range = c.in_ok-new-in-Inc.ensures in
-    pattern_made c.new-in-Inc-2.result _ _ c.new-in-Inc-2.ensures refl
+    pattern_made c.ok-in-Inc.result c.try_from-in-Inc.result _ _ c.ok-in-Inc.ensures.value c.try_from-in-Inc.ensures refl
     (ap (λ i. Binary Add ∷ Operand stack_place ∷ Constant i ∷ []) (same_interval c.in_ok-new-in-Inc.field-0 one_alone range.0 range.1)
     ∙ sym (ap (λ o. reading (meaning_of o)) c.in-Inc.is))
 
 pub returns-in_ok-new-in-Madd : goal.returns-in_ok-new-in-Madd
 returns-in_ok-new-in-Madd c =
     let range = c.in_ok-new-in-Madd.ensures in
-    pattern_made c.new-in-Madd-2.result _ _ c.new-in-Madd-2.ensures refl
+    pattern_made c.ok-in-Madd.result c.try_from-in-Madd.result _ _ c.ok-in-Madd.ensures.value c.try_from-in-Madd.ensures refl
     (ap (λ i. Binary Add ∷ Operand stack_place ∷ Binary Mul ∷ Operand stack_place ∷ Constant i ∷ []) (same_interval c.in_ok-new-in-Madd.field-0 every_word range.0 range.1)
     ∙ sym (ap (λ o. reading (meaning_of o)) c.in-Madd.is))

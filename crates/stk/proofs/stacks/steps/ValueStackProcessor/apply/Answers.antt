@@ -22,4 +22,4 @@ returns c o is =
     c.split_at.ensures.back ∙ (λ j. drop (c.len.ensures.value j - count j) (c.as_slice.ensures.value j)) in
     let value = c.value-value.ensures o.shape (sym is.meaning_is)
     ∙ ap (λ vs. shape_value o.shape vs c.args.payloads.now c.args.setting.now) operands in
-    c.in-Ok-push.ensures ∙ (λ j. (c.in-Ok.ensures ∙ below) j ++ value j ∷ [])
+    c.in-Ok-push.ensures ∙ (λ j. (c.in-Ok.ensures.0 ∙ below) j ++ value j ∷ [])
