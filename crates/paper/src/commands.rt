@@ -3,9 +3,10 @@ ghost use Rattle.std.specs.Prelude.{◌≤◌, length};
 
 use crate::desk::Handed;
 use crate::stop::Stop;
-use crate::text::{Lines, Words, before};
+use crate::text::{Lines, Words, split_once};
 use operators::Operator;
 use std::alloc::Global;
+use std::fmt;
 use std::str::from_utf8;
 use tree::nodes::Node;
 
@@ -25,16 +26,29 @@ const CODE: &str = "after the setting : and then words";
 
 const KINDS: &str = "after cost one word: cycles, size or longest";
 
+const NODES: &str =
+    "a node: the name or number of an operator, then : and a word where it has a payload";
+
 // The kind of what covers cost.
-#[derive(Clone, Copy)]
+#[derive(Clone, Copy, Debug, PartialEq, Eq)]
 pub enum CostKind {
     Cycles,
     Size,
     Longest,
 }
 
+impl fmt::Display for CostKind {
+    fn fmt<W: fmt::Write>(&self, f: &mut fmt::Formatter<W>) -> fmt::Result {
+        f.write_str(match self {
+            CostKind::Cycles => "cycles",
+            CostKind::Size => "size",
+            CostKind::Longest => "longest",
+        })
+    }
+}
+
 // A board by its name.
-#[derive(Clone, Copy)]
+#[derive(Clone, Copy, Debug, PartialEq, Eq)]
 pub enum BoardName {
     Reg,
     Stk,
@@ -72,21 +86,21 @@ pub(crate) fn parse<'a>(
         return Ok(None);
     }
     let mut words = Words::new(line);
-    match words.next_word() {
-        None => Ok(None),
-        Some(b"statement") => Ok(Some(Command::Statement(statement(heap, words)?))),
-        Some(b"evaluate") => Ok(Some(Command::Evaluate(whole_setting(heap, words)?))),
-        Some(b"description") => Ok(Some(Command::Description(description(words, lines)?))),
-        Some(b"cost") => Ok(Some(Command::Cost(cost_kind(words)?))),
-        Some(b"board") => Ok(Some(board(words)?)),
-        Some(b"simulate") => Ok(Some(Command::Simulate(simulated(heap, words)?))),
-        Some(_) => Err(Stop::Expected(COMMANDS)),
-    }
+    Ok(Some(match words.next() {
+        None => return Ok(None),
+        Some(b"statement") => Command::Statement(statement(heap, words)?),
+        Some(b"evaluate") => Command::Evaluate(whole_setting(heap, words)?),
+        Some(b"description") => Command::Description(description(words, lines)?),
+        Some(b"cost") => Command::Cost(cost_kind(words)?),
+        Some(b"board") => board(words)?,
+        Some(b"simulate") => Command::Simulate(simulated(heap, words)?),
+        Some(_) => return Err(Stop::Expected(COMMANDS)),
+    }))
 }
 
 // Nothing more stands on the line.
 fn no_more(mut words: Words, expected: &'static str) -> Result<(), Stop> {
-    match words.next_word() {
+    match words.next() {
         None => Ok(()),
         Some(_) => Err(Stop::Expected(expected)),
     }
@@ -97,14 +111,12 @@ fn description<'a>(words: Words, lines: &mut Lines<'a>) -> Result<&'a [u8], Stop
     ensures { length lines.new.rest.now ≤ length lines.old.rest.now }
 {
     no_more(words, "the word description alone")?;
-    match lines.until_end() {
-        Some(text) => Ok(text),
-        None => Err(Stop::Expected("after the text of a description the line end")),
-    }
+    let text = lines.until_end();
+    text.ok_or(Stop::Expected("after the text of a description the line end"))
 }
 
 fn cost_kind(mut words: Words) -> Result<CostKind, Stop> {
-    let kind = match words.next_word() {
+    let kind = match words.next() {
         Some(b"cycles") => CostKind::Cycles,
         Some(b"size") => CostKind::Size,
         Some(b"longest") => CostKind::Longest,
@@ -114,24 +126,15 @@ fn cost_kind(mut words: Words) -> Result<CostKind, Stop> {
     Ok(kind)
 }
 
-// A word in base ten.
+// A word in base ten: digits alone, where the library's parse would take a sign too.
 fn number(text: &[u8]) -> Option<u32> {
     if text.is_empty() {
         return None;
     }
-    let mut value: u32 = 0;
-    for byte in text {
-        let digit = digit(*byte)?;
-        value = value.checked_mul(10)?.checked_add(digit)?;
-    }
-    Some(value)
-}
-
-fn digit(byte: u8) -> Option<u32> {
-    match byte {
-        b'0'..=b'9' => Some(u32::from(byte - b'0')),
-        _ => None,
-    }
+    text.iter().try_fold(0u32, |value, &byte| {
+        let digit = char::from(byte).to_digit(10)?;
+        value.checked_mul(10)?.checked_add(digit)
+    })
 }
 
 // An operator's number, given as such or by its name.
@@ -139,70 +142,53 @@ fn operator(text: &[u8]) -> Option<u32> {
     if let Some(number) = number(text) {
         return Some(number);
     }
-    match from_utf8(text) {
-        Ok(name) => Some(Operator::from_name(name)?.number()),
-        Err(_) => None,
-    }
+    let operator: Operator = from_utf8(text).ok()?.parse().ok()?;
+    Some(u32::from(operator))
 }
 
 // An operator, and after a colon a payload, which else is 0.
 fn node(text: &[u8]) -> Option<Node> {
-    let colon = before(text, b':');
-    let operator = operator(&text[0..colon])?;
-    let payload = if colon < text.len() {
-        number(&text[colon + 1..])?
-    } else {
-        0
+    let (name, payload) = match split_once(text, b':') {
+        Some((name, payload)) => (name, number(payload)?),
+        None => (text, 0),
     };
+    let operator = operator(name)?;
     Some(Node { operator, payload })
 }
 
 // TARGET = NODE ...
 fn statement(heap: Global, mut words: Words) -> Result<Handed, Stop> {
-    let Some(target) = words.next_word() else {
-        return Err(Stop::Expected("TARGET = NODE ... after the command"));
-    };
-    let Some(target) = number(target) else {
-        return Err(Stop::Expected("the number of a variable before ="));
-    };
-    let Some(b"=") = words.next_word() else {
+    let target = words
+        .next()
+        .ok_or(Stop::Expected("TARGET = NODE ... after the command"))?;
+    let target = number(target).ok_or(Stop::Expected("the number of a variable before ="))?;
+    let Some(b"=") = words.next() else {
         return Err(Stop::Expected("= after the number of a variable"));
     };
     let mut nodes = Vec::new(heap);
-    while let Some(word) = words.next_word() {
-        let Some(node) = node(word) else {
-            return Err(Stop::Expected(
-                "a node: the name or number of an operator, then : and a word where it has a payload",
-            ));
-        };
-        nodes.push(node)?;
+    for word in words {
+        nodes.push(node(word).ok_or(Stop::Expected(NODES))?)?;
     }
     Ok(Handed { target, nodes })
 }
 
-// [count N] [V=W ...], up to a word `:` or the line's end: N variables, all 0 but those given, and whether the `:` stood there.
-fn setting(heap: Global, words: &mut Words) -> Result<(Vec<u32>, bool), Stop> {
-    let count = if words.next_is(b"count") {
-        counted(words.next_word())?
-    } else {
-        VARIABLES
+// [count N] [V=W ...], up to a word `:` or the line's end: N variables, all 0 but those given.
+fn setting(heap: Global, words: &mut Words) -> Result<Vec<u32>, Stop> {
+    let count = match words.next_if(|word| word == b"count".as_slice()) {
+        Some(_) => counted(words.next())?,
+        None => VARIABLES,
     };
     let mut variables = vec![in heap; 0; count as usize]?;
-    while let Some(text) = words.next_word() {
-        if text == b":".as_slice() {
-            return Ok((variables, true));
-        }
+    while let Some(text) = words.next_if(|word| word != b":".as_slice()) {
         assign(text, &mut variables)?;
     }
-    Ok((variables, false))
+    Ok(variables)
 }
 
 // A setting and nothing else.
 fn whole_setting(heap: Global, mut words: Words) -> Result<Vec<u32>, Stop> {
-    let (variables, colon) = setting(heap, &mut words)?;
-    if colon {
-        return Err(Stop::Expected(ASSIGNMENT));
-    }
+    let variables = setting(heap, &mut words)?;
+    no_more(words, ASSIGNMENT)?;
     Ok(variables)
 }
 
@@ -216,29 +202,22 @@ fn board_name(word: Option<&[u8]>) -> Result<BoardName, Stop> {
 
 // NAME WORDS
 fn board<'a>(mut words: Words) -> Result<Command<'a>, Stop> {
-    let name = board_name(words.next_word())?;
-    if let Some(text) = words.next_word() {
-        if let Some(count) = number(text) {
-            no_more(words, SIZE)?;
-            return Ok(Command::Board(name, count));
-        }
-    }
-    Err(Stop::Expected(SIZE))
+    let name = board_name(words.next())?;
+    let count = words.next().and_then(number).ok_or(Stop::Expected(SIZE))?;
+    no_more(words, SIZE)?;
+    Ok(Command::Board(name, count))
 }
 
 // NAME [count N] [V=W ...] : WORD ...
 fn simulated(heap: Global, mut words: Words) -> Result<Simulation, Stop> {
-    let board = board_name(words.next_word())?;
-    let (variables, colon) = setting(heap, &mut words)?;
-    if !colon {
+    let board = board_name(words.next())?;
+    let variables = setting(heap, &mut words)?;
+    let Some(b":") = words.next() else {
         return Err(Stop::Expected(CODE));
-    }
+    };
     let mut code = Vec::new(heap);
-    while let Some(text) = words.next_word() {
-        let Some(word) = number(text) else {
-            return Err(Stop::Expected(CODE));
-        };
-        code.push(word)?;
+    for word in words {
+        code.push(number(word).ok_or(Stop::Expected(CODE))?)?;
     }
     Ok(Simulation {
         board,
@@ -248,30 +227,20 @@ fn simulated(heap: Global, mut words: Words) -> Result<Simulation, Stop> {
 }
 
 fn counted(word: Option<&[u8]>) -> Result<u32, Stop> {
-    if let Some(text) = word {
-        if let Some(count) = number(text) {
-            if count <= MOST_VARIABLES {
-                return Ok(count);
-            }
-        }
-    }
-    Err(Stop::Expected("after count a number up to 1024"))
+    word.and_then(number)
+        .filter(|count| *count <= MOST_VARIABLES)
+        .ok_or(Stop::Expected("after count a number up to 1024"))
 }
 
 // V=W
 fn assign(text: &[u8], variables: &mut Vec<u32>) -> Result<(), Stop> {
-    let equals = before(text, b'=');
-    if equals < text.len() {
-        if let (Some(variable), Some(word)) = (
-            number(&text[0..equals]),
-            number(&text[equals + 1..]),
-        ) {
-            let variable = variable as usize;
-            if variable < variables.len() {
-                variables[variable] = word;
-                return Ok(());
-            }
-        }
-    }
-    Err(Stop::Expected(ASSIGNMENT))
+    let expected = Stop::Expected(ASSIGNMENT);
+    let Some((variable, word)) = split_once(text, b'=') else {
+        return Err(expected);
+    };
+    let (Some(variable), Some(word)) = (number(variable), number(word)) else {
+        return Err(expected);
+    };
+    *variables.get_mut(variable as usize).ok_or(expected)? = word;
+    Ok(())
 }

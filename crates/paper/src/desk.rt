@@ -3,9 +3,12 @@ use crate::answers;
 use crate::commands::{BoardName, Command, CostKind, Simulation};
 use board::Board;
 use description::descriptions::Description;
+use processor::simulation::simulate as simulate_on;
 use reg::boards::Reg;
+use reg::register_files::RegisterProcessor;
 use std::alloc::{AllocError, Global};
 use stk::boards::Stk;
+use stk::stacks::ValueStack;
 use tree::evaluation;
 use tree::nodes::{Node, Statement};
 
@@ -75,7 +78,7 @@ impl Desk {
     fn describe(&mut self, heap: Global, text: &[u8]) -> Result<String, AllocError> {
         match reader::read::read(text, &mut self.description) {
             Ok(()) => answers::description(heap, &self.description),
-            Err(fault) => answers::refused(heap, fault.number(), fault.place()),
+            Err(fault) => answers::refused(heap, fault),
         }
     }
 
@@ -85,7 +88,7 @@ impl Desk {
                 self.taken.push(handed)?;
                 String::from_str(heap, "  taken")
             }
-            Err(fault) => answers::refused(heap, fault.number(), fault.place()),
+            Err(fault) => answers::refused(heap, fault),
         }
     }
 
@@ -96,7 +99,7 @@ impl Desk {
         }
         match evaluation::evaluate(statements.as_slice(), variables.as_mut_slice()) {
             Ok(()) => answers::variables(heap, variables.as_slice()),
-            Err(fault) => answers::refused(heap, fault.number(), fault.place()),
+            Err(fault) => answers::refused(heap, fault),
         }
     }
 }
@@ -108,11 +111,13 @@ fn simulate(heap: Global, simulation: Simulation) -> Result<String, AllocError> 
         words,
     } = simulation;
     let end = match board {
-        BoardName::Reg => reg::simulator::simulate(words.as_slice(), variables.as_mut_slice()),
-        BoardName::Stk => stk::simulator::simulate(words.as_slice(), variables.as_mut_slice()),
+        BoardName::Reg => {
+            simulate_on::<RegisterProcessor>(words.as_slice(), variables.as_mut_slice())
+        }
+        BoardName::Stk => simulate_on::<ValueStack>(words.as_slice(), variables.as_mut_slice()),
     };
     match end {
         Ok(()) => answers::variables(heap, variables.as_slice()),
-        Err(fault) => answers::refused(heap, fault.number(), fault.place()),
+        Err(fault) => answers::refused(heap, fault),
     }
 }

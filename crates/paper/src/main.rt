@@ -46,38 +46,35 @@ fn answer<W: Write>(
     Ok(())
 }
 
-// Carries out the lines up to the first that is no command; how many were read, and why it stopped there.
-fn carry_out<W: Write>(heap: Global, bytes: &[u8], out: &mut W) -> (usize, Result<(), Stop>) {
+// Carries out the lines up to the first that is no command; the number of that line, and why it stopped there.
+fn carry_out<W: Write>(heap: Global, bytes: &[u8], out: &mut W) -> Result<(), (usize, Stop)> {
     let mut lines = Lines::new(bytes);
     let mut desk = Desk::new(heap);
-    while let Some(line) = lines.next_line() {
+    while let Some(line) = lines.next() {
         let done = match commands::parse(heap, line, &mut lines) {
             Ok(Some(command)) => answer(heap, &mut desk, line, command, out),
             Ok(None) => Ok(()),
             Err(stop) => Err(stop),
         };
         if let Err(stop) = done {
-            return (lines.read, Err(stop));
+            return Err((lines.read, stop));
         }
     }
-    (lines.read, Ok(()))
+    Ok(())
 }
 
 fn main(rt: HostRuntime) -> anyhow::Result<ExitCode> {
-    let bytes = match paper(&rt) {
-        Ok(bytes) => bytes,
-        Err(error) => return Err(error.into()),
-    };
+    let bytes = paper(&rt)?;
     let mut out = BufWriter::new(rt.alloc(), rt.stdout())?;
-    let (line, end) = carry_out(rt.alloc(), bytes.as_slice(), &mut out);
+    let end = carry_out(rt.alloc(), bytes.as_slice(), &mut out);
     out.flush()?;
     match end {
         Ok(()) => Ok(ExitCode::SUCCESS),
-        Err(Stop::Expected(what)) => {
+        Err((line, Stop::Expected(what))) => {
             eprintln!(rt; "paper: line {line}: expected {what}")?;
             Ok(ExitCode::FAILURE)
         }
-        Err(Stop::Memory) => Err(anyhow!("out of memory")),
-        Err(Stop::Output(error)) => Err(error.into()),
+        Err((_, Stop::Memory)) => Err(anyhow!("out of memory")),
+        Err((_, Stop::Output(error))) => Err(error.into()),
     }
 }

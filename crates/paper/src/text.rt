@@ -1,45 +1,19 @@
 // Lines and words of a paper.
-ghost use Rattle.std.specs.Prelude.{◌≡◌, ℕ, ◌<◌, ◌≤◌, length, MatchOption, OnSome, ◌≢◌, slice_index};
+ghost use Rattle.std.specs.Prelude.{◌≡◌, ◌<◌, ◌≤◌, length, IfSome, OnSome};
+ghost use Rattle.std.specs.Iterator.{at_most};
 
 use std::alloc::{AllocError, Global};
 
-const LINE_END: u8 = 10;
+const LINE_END: u8 = b'\n';
 
-const SPACE: u8 = 32;
-
-// How many bytes stand before the first `byte`: all of them where there is none.
-pub(crate) fn before(text: &[u8], byte: u8) -> usize
-    ensures within { result ≤ length text.now }
-    ensures none { (k : ℕ) → k < result → slice_index text.now k ≢ byte }
-    ensures found { result < length text.now → slice_index text.now result ≡ byte }
-{
-    for (i, b) in text.iter().enumerate() {
-        if *b == byte {
-            return i;
-        }
-    }
-    text.len()
-}
-
-// How many spaces stand in front.
-fn spaces(text: &[u8]) -> usize
-    ensures { result ≤ length text.now }
-{
-    for (i, b) in text.iter().enumerate() {
-        if *b != SPACE {
-            return i;
-        }
-    }
-    text.len()
-}
+const SPACE: u8 = b' ';
 
 // What stands before the first `byte`, and what stands after it.
-fn cut(text: &[u8], byte: u8) -> (&[u8], &[u8])
-    ensures { 0 < length text.now → length result.1.now < length text.now }
+pub(crate) fn split_once(text: &[u8], byte: u8) -> Option<(&[u8], &[u8])>
+    ensures { IfSome result (λ parts. length parts.1.now < length text.now) }
 {
-    let end = before(text, byte);
-    let next = if end < text.len() { end + 1 } else { end };
-    (&text[0..end], &text[next..])
+    let at = text.iter().position(|b| *b == byte)?;
+    Some((&text[..at], &text[at + 1..]))
 }
 
 // The lines of a text, in order.
@@ -58,29 +32,15 @@ impl<'a> Lines<'a> {
         }
     }
 
-    pub(crate) fn next_line(&mut self) -> Option<&'a [u8]>
-        ensures { MatchOption result (length self.new.rest.now ≡ 0) (λ _. length self.new.rest.now < length self.old.rest.now) }
-    {
-        if self.rest.is_empty() {
-            return None;
-        }
-        let (line, rest) = cut(self.rest, LINE_END);
-        self.rest = rest;
-        self.read = self.read.saturating_add(1);
-        Some(line)
-    }
-}
-
-impl<'a> Lines<'a> {
     // The text up to a line that is just `end`, each line with its end; none where no such line follows.
     pub(crate) fn until_end(&mut self) -> Option<&'a [u8]>
         ensures { length self.new.rest.now ≤ length self.old.rest.now }
     {
         let text = self.rest;
         let mut passed = 0;
-        while let Some(line) = self.next_line() {
+        while let Some(line) = self.next() {
             if line == b"end".as_slice() {
-                return Some(&text[0..passed]);
+                return Some(&text[..passed]);
             }
             passed = text.len() - self.rest.len();
         }
@@ -88,8 +48,26 @@ impl<'a> Lines<'a> {
     }
 }
 
+impl<'a> Iterator for Lines<'a> {
+    type Item = &'a [u8];
+
+    ghost next_gives = { λ s _ t. length t.rest.now ≤ length s.rest.now };
+
+    ghost remaining = { λ s. at_most (length s.rest.now) };
+
+    fn next(&mut self) -> Option<&'a [u8]> {
+        if self.rest.is_empty() {
+            return None;
+        }
+        let (line, rest) = split_once(self.rest, LINE_END).unwrap_or((self.rest, &[]));
+        self.rest = rest;
+        self.read = self.read.saturating_add(1);
+        Some(line)
+    }
+}
+
 // The words of a line, in order.
-#[derive(Drop)]
+#[derive(Clone, Copy)]
 pub struct Words<'a> {
     rest: &'a [u8],
 }
@@ -99,38 +77,39 @@ impl<'a> Words<'a> {
         Words { rest: line }
     }
 
-    pub(crate) fn next_word(&mut self) -> Option<&'a [u8]>
+    // Takes the next word if the test passes it.
+    pub(crate) fn next_if<F: FnOnce(&[u8]) -> bool>(&mut self, test: F) -> Option<&'a [u8]>
+        requires { F.IsAlwaysCallable test }
         ensures { OnSome result (length self.new.rest.now < length self.old.rest.now) }
     {
-        let start = spaces(self.rest);
-        if start == self.rest.len() {
+        let mut ahead = *self;
+        let word = ahead.next()?;
+        if !test(word) {
             return None;
         }
-        let (word, rest) = cut(&self.rest[start..], SPACE);
+        *self = ahead;
+        Some(word)
+    }
+}
+
+impl<'a> Iterator for Words<'a> {
+    type Item = &'a [u8];
+
+    ghost remaining = { λ s. at_most (length s.rest.now) };
+
+    fn next(&mut self) -> Option<&'a [u8]> {
+        let start = self.rest.iter().position(|b| *b != SPACE)?;
+        let front = &self.rest[start..];
+        let (word, rest) = split_once(front, SPACE).unwrap_or((front, &[]));
         self.rest = rest;
         Some(word)
     }
 }
 
-impl Words<'_> {
-    // Passes over the next word if it is this one, and says whether it was.
-    pub(crate) fn next_is(&mut self, word: &[u8]) -> bool {
-        let mut ahead = Words::new(self.rest);
-        if let Some(next) = ahead.next_word() {
-            if next == word {
-                self.rest = ahead.rest;
-                return true;
-            }
-        }
-        false
-    }
-}
-
 // The line's words with one space between them.
 pub(crate) fn single_spaced(heap: Global, line: &[u8]) -> Result<Vec<u8>, AllocError> {
-    let mut words = Words::new(line);
     let mut all = Vec::new(heap);
-    while let Some(word) = words.next_word() {
+    for word in Words::new(line) {
         if !all.is_empty() {
             all.push(SPACE)?;
         }
