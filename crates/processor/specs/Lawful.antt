@@ -1,4 +1,4 @@
--- How the words of a board run, and that every board is lawful.
+-- How the words of a board run, and that every board is lawful: a proof that stands here, since the board's member `lawful` is it.
 use Rattle.std.specs.Prelude.{◌≡◌, ℕ, true, List, [], ◌∷◌, length, Some, None, Option, refl}
 use Rattle.std.proofs.Common.{sym, ap, ◌∙◌, length-set}
 use Rattle.board.specs.Machines.{Machine, Operation, operation_of}

@@ -26,7 +26,7 @@ const STORE: u32 = 63;
 pub trait Processor: Copy {
     ghost design: { Design };
 
-    // What is encoded runs, since the design keeps the laws of a processor.
+    // What a processor owes, so that what is encoded for it runs. A member and no law, so that a board's member can rest on it.
     ghost sound: { Sound design };
 
     // The words that a value holds.
@@ -67,5 +67,6 @@ pub trait Processor: Copy {
     fn take(&mut self, first: u32) -> Result<u32, Misplaced>
         ensures { MatchResult result (λ v. (v ≡ stored_value design first (own self.old)) × (own self.new ≡ design.after_store first (own self.old))) (λ _. (design.misplaced_at first 1 0 (own self.old) ≡ true) × (own self.new ≡ own self.old)) };
 
+    // Each letter that waits makes a PLACE.
     ghost result_places: { ResultsInPlaces design };
 }
