@@ -2,6 +2,7 @@
 use Rattle.std.proofs.Common.{◌≡◌, ℕ, zero, suc, ◌<◌, ◌≤◌, true, ◌&&◌, eqb, ltb, List, [], ◌∷◌, ◌++◌, length, Some, None, Option, refl, ap, ◌∙◌, subst, arith, length-append}
 use Rattle.std.proofs.lemmas.Bool.{and_from, and_parts, ltb-true, lt-ltb}
 use Rattle.std.specs.List.{list_all}
+use Rattle.std.proofs.lemmas.Option.{none-some}
 use Rattle.pattern.specs.declared.names.ShortName.{ShortName}
 use Rattle.pattern.specs.declared.items.Item.{Item}
 use Rattle.pattern.specs.declared.items.Item.TheVariants.{Operand, Unary, Binary, Constant, Variable}
@@ -33,20 +34,17 @@ place_more [] more i h = absurd (omega arith)
 place_more (n ∷ ns) more zero h = refl
 place_more (n ∷ ns) more (suc i) h = place_more ns more i (omega arith)
 
-none_some : (b : ℕ) → None ≡ Some b → ⊥
-none_some b e = let z : ◌≡◌ {A = ℕ} 0 1 = cc in omega arith
-
 -- the operand of a chain rule is declared
 pub only_below : (n : ℕ) (xs : List Item) (b : ℕ) → operands_below n xs ≡ true → only_operand xs ≡ Some b → b < n
-only_below n [] b e o = absurd (none_some b o)
+only_below n [] b e o = absurd (none-some b o)
 only_below n (Operand a ∷ []) b e o =
     let same : a ≡ b = cc in
     subst (λ k. k < n) same (ltb-true a n (and_parts (ltb a n) true e).0)
-only_below n (Operand a ∷ x ∷ xs) b e o = absurd (none_some b o)
-only_below n (Unary u ∷ xs) b e o = absurd (none_some b o)
-only_below n (Binary u ∷ xs) b e o = absurd (none_some b o)
-only_below n (Constant i ∷ xs) b e o = absurd (none_some b o)
-only_below n (Variable ∷ xs) b e o = absurd (none_some b o)
+only_below n (Operand a ∷ x ∷ xs) b e o = absurd (none-some b o)
+only_below n (Unary u ∷ xs) b e o = absurd (none-some b o)
+only_below n (Binary u ∷ xs) b e o = absurd (none-some b o)
+only_below n (Constant i ∷ xs) b e o = absurd (none-some b o)
+only_below n (Variable ∷ xs) b e o = absurd (none-some b o)
 
 module _ (ns more : List Nonterminal) where
   chain_more : (a : ℕ) (o : Option ℕ) → a < length ns → ((b : ℕ) → o ≡ Some b → b < length ns) → chain_at_place ns a o ≡ true → chain_at_place (ns ++ more) a o ≡ true

@@ -1,7 +1,8 @@
 -- Numbers of texts among names, and that no name is declared twice.
-use Rattle.std.proofs.Common.{◌≡◌, ℕ, suc, true, false, cond, not, ◌&&◌, eqb, nat_eq, List, [], ◌∷◌, ◌++◌, is_some, Some, None, Option, sym, refl, ap, ◌∙◌, subst, ⊎_elim, arith, add-one}
+use Rattle.std.proofs.Common.{◌≡◌, ℕ, suc, true, false, cond, not, ◌&&◌, eqb, nat_eq, List, [], ◌∷◌, ◌++◌, is_some, Some, None, Option, sym, refl, ap, ◌∙◌, subst, ⊎_elim, add-one}
 use Rattle.std.proofs.ByRecursion.{All-append}
 use Rattle.std.specs.List.{position_from}
+use Rattle.std.proofs.lemmas.Option.{none-some}
 use Rattle.std.specs.Cmp.Lexicographic.{pointwise}
 use Rattle.std.proofs.lemmas.Bool.{and_from, and_parts, eq-eqb, eqb-true, cond-true, cond-false, cases_Bool, both_ways, not-true}
 use Rattle.description.specs.declared.rules.Nonterminal.{Nonterminal}
@@ -31,13 +32,10 @@ none_from k t [] a = refl
 none_from k t (n ∷ ns) a =
     cond-false (same_text (text_of n) t) (Some k) _ (other_from (text_of n) t a.0) ∙ none_from (suc k) t ns a.1
 
-some_none : {X : Type 0} (x : X) → Some x ≡ None → ⊥
-some_none x e = let z : ◌≡◌ {A = ℕ} 0 1 = cc in omega arith
-
 pub absent_from : (k : ℕ) (t : List ℕ) (ns : List Nonterminal) → number_from k t ns ≡ None → Absent t ns
 absent_from k t [] e = tt
 absent_from k t (n ∷ ns) e =
-    ⊎_elim (λ s. absurd (some_none k (sym (cond-true (same_text (text_of n) t) (Some k) _ s) ∙ e)))
+    ⊎_elim (λ s. absurd (none-some k (sym e ∙ cond-true (same_text (text_of n) t) (Some k) _ s)))
     (λ s. (
       λ same. both_ways (same_text (text_of n) t) s (same_from (text_of n) t same),
       absent_from (suc k) t ns (sym (cond-false (same_text (text_of n) t) (Some k) _ s) ∙ e),

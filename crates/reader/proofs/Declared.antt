@@ -1,6 +1,7 @@
 -- The declared names and the rules of a description, as the reader sees them.
 use Rattle.std.proofs.Common.{◌≡◌, ℕ, suc, ◌+◌, ◌<◌, cond, List, [], ◌∷◌, map, length, is_some, Some, None, Option, sym, refl, ap, ◌∙◌, ⊎_elim, arith}
 use Rattle.std.proofs.lemmas.List.{length-map}
+use Rattle.std.proofs.lemmas.Option.{none-some, same_Some}
 use Rattle.std.proofs.lemmas.Bool.{cond-true, cond-false, cases_Bool, both_ways}
 use Rattle.description.specs.declared.rules.Nonterminal.{Nonterminal}
 use Rattle.pattern.specs.Letters.{letters_of}
@@ -17,16 +18,10 @@ pub declared_is : (k : ℕ) (t : List ℕ) (ns : List Nonterminal) → declared_
 declared_is k t [] = refl
 declared_is k t (n ∷ ns) = ap (cond (same_text (text_of n) t) (Some k)) (declared_is (suc k) t ns)
 
-none_some : (i : ℕ) → None ≡ Some i → ⊥
-none_some i e = let z : ◌≡◌ {A = ℕ} 0 1 = cc in omega arith
-
-same_some : (i j : ℕ) → Some i ≡ Some j → i ≡ j
-same_some i j e = cc
-
 pub number_below : (k : ℕ) (t : List ℕ) (ns : List Nonterminal) (i : ℕ) → number_from k t ns ≡ Some i → i < k + length ns
-number_below k t [] i e = absurd (none_some i e)
+number_below k t [] i e = absurd (none-some i e)
 number_below k t (n ∷ ns) i e =
-    ⊎_elim (λ s. let same = same_some k i (sym (cond-true (same_text (text_of n) t) (Some k) _ s) ∙ e) in omega arith)
+    ⊎_elim (λ s. let same = same_Some k i (sym (cond-true (same_text (text_of n) t) (Some k) _ s) ∙ e) in omega arith)
     (λ s. let less = number_below (suc k) t ns i (sym (cond-false (same_text (text_of n) t) (Some k) _ s) ∙ e) in omega arith)
     (cases_Bool (same_text (text_of n) t))
 

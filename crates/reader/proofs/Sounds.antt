@@ -2,6 +2,7 @@
 use Rattle.std.proofs.Common.{◌≡◌, ℕ, zero, suc, ◌+◌, ◌-◌, ◌^◌, ◌<◌, ◌≤◌, true, false, cond, ◌&&◌, eqb, ltb, leb, List, [], ◌∷◌, ◌++◌, length, take, is_some, Some, None, codes, Option, sym, refl, ap, ◌∙◌, subst, ⊎_elim, arith, length-append}
 use Rattle.std.proofs.ByRecursion.{All-append, All-take}
 use Rattle.std.proofs.lemmas.List.{append_assoc, length_push}
+use Rattle.std.proofs.lemmas.Option.{none-some, same_Some}
 use Rattle.std.proofs.lemmas.Bool.{cond_both, cond-true, cond-false, cases_Bool, both_ways, eqb-true, leb-false, ltb-false}
 use Rattle.operators.specs.declared.Operator.{Operator}
 use Rattle.operators.specs.declared.Operator.TheVariants.{Cnst, Var, One, Two}
@@ -80,16 +81,10 @@ gain_sound s d x w f i k =
     cond_both (within_limits (d.so_far ++ x ∷ [])) (goes (to s (w (gained d x)))) (fails 7 s.line) SoundAfter
     (λ e. k (gained_fit s.outline d x f i e)) (λ e. tt)
 
-none_some : (i : ℕ) → None ≡ Some i → ⊥
-none_some i e = let z : ◌≡◌ {A = ℕ} 0 1 = cc in omega arith
-
-same_some : (i j : ℕ) → Some i ≡ Some j → i ≡ j
-same_some i j e = cc
-
 declared_below : (k : ℕ) (t : List ℕ) (ds : List Declaration) (i : ℕ) → declared_from k t ds ≡ Some i → i < k + length ds
-declared_below k t [] i e = absurd (none_some i e)
+declared_below k t [] i e = absurd (none-some i e)
 declared_below k t (d ∷ ds) i e =
-    ⊎_elim (λ s. let same = same_some k i (sym (cond-true (same_text d.spelled t) (Some k) _ s) ∙ e) in omega arith)
+    ⊎_elim (λ s. let same = same_Some k i (sym (cond-true (same_text d.spelled t) (Some k) _ s) ∙ e) in omega arith)
     (λ s. let less = declared_below (suc k) t ds i (sym (cond-false (same_text d.spelled t) (Some k) _ s) ∙ e) in omega arith)
     (cases_Bool (same_text d.spelled t))
 
