@@ -8,11 +8,13 @@ use rows::Row;
 
 mod calls;
 
+// A description has at most so many names.
 pub const NAME_LIMIT: usize = 16;
 
+// It has at most so many rules.
 pub const RULE_LIMIT: usize = 128;
 
-// The names and the rules, each by its place, and the number of the start name where there are names.
+// The names and the rules in order, and the number of the start name where there are names.
 #[derive(Clone, Copy)]
 pub struct Description {
     pub names: Row<Nonterminal, NAME_LIMIT>,

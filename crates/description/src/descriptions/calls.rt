@@ -124,6 +124,7 @@ impl Description {
         self.names.as_slice().get(number).copied()
     }
 
+    // Where the values of a name lie.
     fn place_of(&self, number: u8) -> Option<Place>
         ensures { MatchOption result (length (names_of self.now) ≤ number) (λ p. p.letter ≡ place_letter (names_of self.now) number) }
     {
