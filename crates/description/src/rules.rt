@@ -43,10 +43,8 @@ impl Entry for Rule {
     ghost blank = { blank_rule };
 
     fn blank() -> Rule {
-        let (Ok(pattern), Some(figures)) = (
-            Pattern::try_from([Item::Variable]),
-            Figures::new(0, 0),
-        ) else {
+        let (Ok(pattern), Some(figures)) = (Pattern::try_from([Item::Variable]), Figures::new(0, 0))
+        else {
             unreachable()
         };
         Rule {

@@ -2,22 +2,16 @@
 ghost use Rattle.reader.specs.Grammar.{AcceptsExactly, OneAtMost, PlacesWithin};
 
 // The text that is accepted as a description is that description by the grammar, and the other way round.
-pub fn accepts_exactly() -> bool
+pub fn accepts_exactly()
     ensures { AcceptsExactly }
-{
-    true
-}
+{}
 
 // No text is two descriptions.
-pub fn one_at_most() -> bool
+pub fn one_at_most()
     ensures { OneAtMost }
-{
-    true
-}
+{}
 
 // A refusal's place is within the text, or its end.
-pub fn places_within() -> bool
+pub fn places_within()
     ensures { PlacesWithin }
-{
-    true
-}
+{}
