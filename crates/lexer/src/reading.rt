@@ -6,6 +6,7 @@ ghost use Rattle.lexer.specs.Tokens.{token_of, token_at, offset_after, number_to
 use crate::runs::{Class, number_value, run_length};
 use crate::{Lexer, LexicalFault, Token};
 
+// A name's limit, which pattern has too: this crate stands on no other.
 const NAME_LIMIT: usize = 8;
 
 impl<'a> Lexer<'a> {

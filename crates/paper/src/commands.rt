@@ -8,11 +8,9 @@ use operators::Operator;
 use std::alloc::Global;
 use std::fmt;
 use std::str::from_utf8;
-use tree::nodes::Node;
+use tree::nodes::{Node, VARIABLES};
 
-const VARIABLES: u32 = 64;
-
-const MOST_VARIABLES: u32 = 1024;
+const MOST_VARIABLES: usize = 1024;
 
 const COMMANDS: &str = "a command: statement, evaluate, description, cost, board or simulate";
 
@@ -165,10 +163,9 @@ fn statement(heap: Global, mut words: Words) -> Result<Handed, Stop> {
     let Some(b"=") = words.next() else {
         return Err(Stop::Expected("= after the number of a variable"));
     };
-    let mut nodes = Vec::new(heap);
-    for word in words {
-        nodes.push(node(word).ok_or(Stop::Expected(NODES))?)?;
-    }
+    let nodes = words
+        .map(|word| node(word).ok_or(Stop::Expected(NODES)))
+        .try_collect(heap)?;
     Ok(Handed { target, nodes })
 }
 
@@ -178,7 +175,7 @@ fn setting(heap: Global, words: &mut Words) -> Result<Vec<u32>, Stop> {
         Some(_) => counted(words.next())?,
         None => VARIABLES,
     };
-    let mut variables = vec![in heap; 0; count as usize]?;
+    let mut variables = vec![in heap; 0; count]?;
     while let Some(text) = words.next_if(|word| word != b":".as_slice()) {
         assign(text, &mut variables)?;
     }
@@ -215,19 +212,19 @@ fn simulated(heap: Global, mut words: Words) -> Result<Simulation, Stop> {
     let Some(b":") = words.next() else {
         return Err(Stop::Expected(CODE));
     };
-    let mut code = Vec::new(heap);
-    for word in words {
-        code.push(number(word).ok_or(Stop::Expected(CODE))?)?;
-    }
+    let words = words
+        .map(|word| number(word).ok_or(Stop::Expected(CODE)))
+        .try_collect(heap)?;
     Ok(Simulation {
         board,
         variables,
-        words: code,
+        words,
     })
 }
 
-fn counted(word: Option<&[u8]>) -> Result<u32, Stop> {
+fn counted(word: Option<&[u8]>) -> Result<usize, Stop> {
     word.and_then(number)
+        .map(|count| count as usize)
         .filter(|count| *count <= MOST_VARIABLES)
         .ok_or(Stop::Expected("after count a number up to 1024"))
 }

@@ -93,10 +93,11 @@ impl Desk {
     }
 
     fn evaluate(&self, heap: Global, mut variables: Vec<u32>) -> Result<String, AllocError> {
-        let mut statements = Vec::new(heap);
-        for handed in self.taken.iter() {
-            statements.push(handed.statement())?;
-        }
+        let statements: Vec<Statement> = self
+            .taken
+            .iter()
+            .map(|handed| handed.statement())
+            .collect(heap)?;
         match evaluation::evaluate(statements.as_slice(), variables.as_mut_slice()) {
             Ok(()) => answers::variables(heap, variables.as_slice()),
             Err(fault) => answers::refused(heap, fault),

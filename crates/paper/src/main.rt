@@ -1,6 +1,8 @@
 // Reads a paper, carries out its commands in order and prints the key.
 #![tactic(auto)]
 
+ghost use Rattle.std.specs.Prelude.{◌≤◌, length};
+
 mod answers;
 mod commands;
 mod desk;
@@ -8,7 +10,6 @@ mod stop;
 mod text;
 
 use anyhow::anyhow;
-use commands::Command;
 use desk::Desk;
 use std::alloc::Global;
 use std::io::{BufWriter, Read, Write};
@@ -30,19 +31,23 @@ fn paper(rt: &HostRuntime) -> io::Result<Vec<u8>> {
     Ok(bytes)
 }
 
-// Carries out a command, and prints its line and its answer.
-fn answer<W: Write>(
+// Carries out the command of a line, if it has one, and prints the line and the answer.
+fn carry_out_line<'a, W: Write>(
     heap: Global,
+    line: &'a [u8],
+    lines: &mut Lines<'a>,
     desk: &mut Desk,
-    line: &[u8],
-    command: Command<'_>,
     out: &mut W,
-) -> Result<(), Stop> {
-    let mut echo = text::single_spaced(heap, line)?;
-    echo.push(b'\n')?;
-    let answer = desk.answer(heap, command)?;
-    out.write_all(echo.as_slice())?;
-    writeln!(out, "{answer}")?;
+) -> Result<(), Stop>
+    ensures { length lines.new.rest.now ≤ length lines.old.rest.now }
+{
+    if let Some(command) = commands::parse(heap, line, lines)? {
+        let mut echo = text::single_spaced(heap, line)?;
+        echo.push(b'\n')?;
+        let answer = desk.answer(heap, command)?;
+        out.write_all(echo.as_slice())?;
+        writeln!(out, "{answer}")?;
+    }
     Ok(())
 }
 
@@ -51,14 +56,8 @@ fn carry_out<W: Write>(heap: Global, bytes: &[u8], out: &mut W) -> Result<(), (u
     let mut lines = Lines::new(bytes);
     let mut desk = Desk::new(heap);
     while let Some(line) = lines.next() {
-        let done = match commands::parse(heap, line, &mut lines) {
-            Ok(Some(command)) => answer(heap, &mut desk, line, command, out),
-            Ok(None) => Ok(()),
-            Err(stop) => Err(stop),
-        };
-        if let Err(stop) = done {
-            return Err((lines.read, stop));
-        }
+        let done = carry_out_line(heap, line, &mut lines, &mut desk, out);
+        done.map_err(|stop| (lines.read, stop))?;
     }
     Ok(())
 }

@@ -1,7 +1,7 @@
 // What is asked of a token.
-ghost use Rattle.std.specs.Prelude.{◌≡◌, true, false};
+ghost use Rattle.std.specs.Prelude.{◌≡◌, true};
 ghost use Rattle.pattern.specs.Letters.{letters_of};
-ghost use Rattle.lexer.specs.declared.Token.TheVariants.{Name, Number};
+ghost use Rattle.lexer.specs.declared.Token.TheVariants.{Name};
 ghost use Rattle.description.specs.Names.{same_text};
 ghost use Rattle.reader.specs.States.{NumberRead};
 ghost use Rattle.reader.specs.Words.{is};
@@ -12,12 +12,14 @@ use lexer::Token;
 use pattern::names::ShortName;
 
 impl Lexeme<'_> {
-    // Whether it is of that kind, which is no number.
+    // Whether it is of that kind; a number is a number, whatever its value.
     pub(crate) fn is(&self, kind: Token) -> bool
-        requires { is (Number 0) kind ≡ false }
         ensures { result ≡ is kind self.now.token }
     {
-        self.token == kind
+        match (self.token, kind) {
+            (Token::Number(_), Token::Number(_)) => true,
+            (token, kind) => token == kind,
+        }
     }
 
     // The name that the bytes are.
