@@ -25,9 +25,6 @@ pub trait Board {
 
     ghost state: { Self → State };
 
-    // What each board must prove.
-    ghost lawful: { (b : Self) → Lawful (machine b) (state b) };
-
     fn depth_limit(&self) -> usize
         ensures { result ≡ (machine self.now).deepest };
 
@@ -62,4 +59,7 @@ pub trait Board {
     // The variables become the end setting; on a refusal none is changed.
     fn run(&self, variables: &mut [u32]) -> Result<(), RunFault>
         ensures { MatchResult result (λ _. Ran (state self.now) variables.old variables.new) (λ e. (variables.new ≡ variables.old) × RunFails variables.old (run_number e) (run_place e)) };
+
+    // What each board must prove.
+    ghost lawful: { (b : Self) → Lawful (machine b) (state b) };
 }

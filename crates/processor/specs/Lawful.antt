@@ -1,4 +1,4 @@
--- How the words of a board run, and that every board is lawful: a proof that stands here, since the board's member `lawful` is it.
+-- How the words of a board run, and that every board is lawful: a proof that stands here, since the board's law `lawful` is it.
 use Rattle.std.specs.Prelude.{◌≡◌, ℕ, true, List, [], ◌∷◌, length, Some, None, Option, refl}
 use Rattle.std.proofs.Common.{sym, ap, ◌∙◌, length-set}
 use Rattle.board.specs.Machines.{Machine, Operation, operation_of}
@@ -56,8 +56,8 @@ module _ (d : Design) (sound : Sound d) (ws w : List ℕ) (belongs : Belongs d w
     settings_whole = λ σ h. ap (λ x. length x.ends) (effect_meant free σ) ∙ ends_length d.fixed_part (untouched σ) (decoded d ws) ∙ h;
   }
 
-pub board_lawful : {P : Type 0} {by : Ghosts P} → (b : CodedBoard P by) → Lawful by.design.fixed_part (board_state b)
-board_lawful {P} {by} b = record {
-  machine_lawful = by.sound.lawful_machine;
-  state_lawful = state_lawful by.design by.sound (code_words b) (waiting_places b) b.belongs (length (beyond_code b));
+pub board_lawful : {P : Type 0} {by : Ghosts P} → Sound by.design → (b : CodedBoard P by) → Lawful by.design.fixed_part (board_state b)
+board_lawful {P} {by} sound b = record {
+  machine_lawful = sound.lawful_machine;
+  state_lawful = state_lawful by.design sound (code_words b) (waiting_places b) b.belongs (length (beyond_code b));
 }

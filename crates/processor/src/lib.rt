@@ -26,9 +26,6 @@ const STORE: u32 = 63;
 pub trait Processor: Copy {
     ghost design: { Design };
 
-    // What a processor owes, so that what is encoded for it runs. A member and no law, so that a board's member can rest on it.
-    ghost sound: { Sound design };
-
     // The words that a value holds.
     ghost own: { Self → List ℕ };
 
@@ -68,5 +65,8 @@ pub trait Processor: Copy {
         ensures { MatchResult result (λ v. (v ≡ stored_value design first (own self.old)) × (own self.new ≡ design.after_store first (own self.old))) (λ _. (design.misplaced_at first 1 0 (own self.old) ≡ true) × (own self.new ≡ own self.old)) };
 
     // Each letter that waits makes a PLACE.
+    // What a processor owes, so that what is encoded for it runs.
+    ghost sound: { Sound design };
+
     ghost result_places: { ResultsInPlaces design };
 }

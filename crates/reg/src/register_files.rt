@@ -99,9 +99,9 @@ impl RegisterProcessor {
 impl Processor for RegisterProcessor {
     ghost design = { reg_design };
 
-    ghost sound = { reg_sound };
-
     ghost own = { λ p. p.«data» ++ p.address };
+
+    ghost sound = { reg_sound };
 
     ghost result_places = { reg_result_places };
 

@@ -82,7 +82,7 @@ impl<P: Processor> Board for CodedBoard<'_, P> {
 
     ghost state = { board_state };
 
-    ghost lawful = { board_lawful };
+    ghost lawful = { board_lawful P.Processor.sound };
 
     fn depth_limit(&self) -> usize {
         P::depth_limit()

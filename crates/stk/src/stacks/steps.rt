@@ -16,9 +16,9 @@ use rows::Row;
 impl Processor for ValueStack {
     ghost design = { stk_design };
 
-    ghost sound = { stk_sound };
-
     ghost own = { stacked };
+
+    ghost sound = { stk_sound };
 
     ghost result_places = { stk_result_places };
 

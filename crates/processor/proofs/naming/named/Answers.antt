@@ -34,7 +34,7 @@ returns-then-eq g c =
 pub returns : goal.returns
 returns g c =
     let m = g.P.Processor.design.fixed_part in
-    let sound = g.P.Processor.sound in
+    let sound = g.met.P.Processor.sound in
     all_among _ m.operations
     (λ o a h.
     let is = listed_found m.operations o sound.lawful_machine.opcodes_once a in

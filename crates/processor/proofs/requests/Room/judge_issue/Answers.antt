@@ -13,13 +13,13 @@ overflow_sub-below g c =
 pub slice_bounds-all-end : goal.slice_bounds-all-end
 slice_bounds-all-end g c =
     let found = c.in_ok-instruction.ensures in
-    omega (arith, leaf_total_is c.in_ok-instruction.instruction found.by found.is, g.P.Processor.sound.one_payload c.args.request.opcode found.by found.allowed.is)
+    omega (arith, leaf_total_is c.in_ok-instruction.instruction found.by found.is, g.met.P.Processor.sound.one_payload c.args.request.opcode found.by found.allowed.is)
 
 pub slice_bounds-try_from-end : goal.slice_bounds-try_from-end
 slice_bounds-try_from-end g c =
     let found = c.in_ok-instruction.ensures in
     let n = 1 + c.in_ok-instruction.instruction.meaning.leaves in
-    omega (arith, length-take n (c.first_word-first.result ∷ c.args.request.first ∷ []), leaf_total_is c.in_ok-instruction.instruction found.by found.is, g.P.Processor.sound.one_payload c.args.request.opcode found.by found.allowed.is)
+    omega (arith, length-take n (c.first_word-first.result ∷ c.args.request.first ∷ []), leaf_total_is c.in_ok-instruction.instruction found.by found.is, g.met.P.Processor.sound.one_payload c.args.request.opcode found.by found.allowed.is)
 
 pub unreachable-requires-in_default-push : goal.unreachable-requires-in_default-push
 unreachable-requires-in_default-push g c =
@@ -27,7 +27,7 @@ unreachable-requires-in_default-push g c =
     let n = c.in_ok-instruction.instruction.meaning.operands in
     let w = c.args.self.now.waiting.now in
     let full = c.in_default-push.ensures in
-    omega (arith, full.1, ap length c.in-Ok-try_from.ensures.0, length-take (length w - n) w, arity_is c.in_ok-instruction.instruction found.by found.is, found.allowed.shallow, g.P.Processor.sound.lawful_machine.shallow)
+    omega (arith, full.1, ap length c.in-Ok-try_from.ensures.0, length-take (length w - n) w, arity_is c.in_ok-instruction.instruction found.by found.is, found.allowed.shallow, g.met.P.Processor.sound.lawful_machine.shallow)
 
 pub returns : goal.returns
 returns g c =
@@ -37,7 +37,7 @@ returns g c =
     let d = g.P.Processor.design in
     let w = c.args.self.now.waiting.now in
     let op = c.args.request.opcode in
-    let few : leaf_total o ≤ 1 = g.P.Processor.sound.one_payload op o found.allowed.is in
+    let few : leaf_total o ≤ 1 = g.met.P.Processor.sound.one_payload op o found.allowed.is in
     let operands = arity_is i o found.is in
     let leaves = leaf_total_is i o found.is in
     let first : c.first_word-first.result ≡ first_word d op (length w - arity o) (arity o) = c.first_word-first.ensures ∙ ap (λ n. first_word d op (length w - n) n) operands in

@@ -5,10 +5,10 @@ pub append-requires-clause-belongs : goal.append-requires-clause-belongs
 append-requires-clause-belongs g c =
     let b = c.args.self.now in
     let e = c.in_ok-emission.emission in
-    issue_grows b e c.args.opcode c.args.first c.args.second (emits_here b e _ _ c.room.ensures.waiting c.room.ensures.free _ _ _ c.in_ok-emission.ensures)
+    issue_grows g.met.P.Processor.sound b e c.args.opcode c.args.first c.args.second (emits_here g.met.P.Processor.sound b e _ _ c.room.ensures.waiting c.room.ensures.free _ _ _ c.in_ok-emission.ensures)
 
 pub returns-clause-outcome : goal.returns-clause-outcome
 returns-clause-outcome g c =
     let b = c.args.self.now in
     let e = c.in_ok-emission.emission in
-    issue_done b e c.args.opcode c.args.first c.args.second (emits_here b e _ _ c.room.ensures.waiting c.room.ensures.free _ _ _ c.in_ok-emission.ensures) c.append.new.self c.append.ensures
+    issue_done g.met.P.Processor.sound b e c.args.opcode c.args.first c.args.second (emits_here g.met.P.Processor.sound b e _ _ c.room.ensures.waiting c.room.ensures.free _ _ _ c.in_ok-emission.ensures) c.append.new.self c.append.ensures

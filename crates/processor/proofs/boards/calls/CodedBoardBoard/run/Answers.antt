@@ -14,4 +14,4 @@ returns-in-Err g c =
     let f = c.in-Err.fault in
     let denied = c.in-Err.ensures in
     let as-held = subst (λ ws. SimulationDenied d ws σ (simulator_number f) (simulator_place f)) c.words.ensures.value denied.1 in
-    (denied.0, subst (λ p. RunFails σ 34 p) (sym c.place.ensures) (run_refused d g.P.Processor.sound (code_words b) (waiting_places b) b.belongs σ (simulator_number f) (simulator_place f) as-held))
+    (denied.0, subst (λ p. RunFails σ 34 p) (sym c.place.ensures) (run_refused d g.met.P.Processor.sound (code_words b) (waiting_places b) b.belongs σ (simulator_number f) (simulator_place f) as-held))
