@@ -110,7 +110,6 @@ impl<P: Processor> Board for CodedBoard<'_, P> {
     }
 
     fn issue(&mut self, opcode: u32, first: u32, second: u32) -> Result<(), BoardFault>
-        ensures fixed { P.Processor.design.fixed_part ≡ P.Processor.design.fixed_part }
         ensures outcome { MatchResult result (λ _. Issued P.Processor.design.fixed_part (board_state self.old) opcode first second (board_state self.new)) (λ e. (board_state self.new ≡ board_state self.old) × IssueDenied P.Processor.design.fixed_part (board_state self.old) opcode first second (board_number e) (board_place e)) }
         ensures memory { MatchResult result (λ _. WroteIssue self.old opcode first second self.new) (λ _. self.new ≡ self.old) }
     {
@@ -125,7 +124,6 @@ impl<P: Processor> Board for CodedBoard<'_, P> {
     }
 
     fn store(&mut self, variable: u32) -> Result<(), BoardFault>
-        ensures fixed { P.Processor.design.fixed_part ≡ P.Processor.design.fixed_part }
         ensures outcome { MatchResult result (λ _. Stored P.Processor.design.fixed_part (board_state self.old) variable (board_state self.new)) (λ e. (board_state self.new ≡ board_state self.old) × StoreDenied P.Processor.design.fixed_part (board_state self.old) variable (board_number e) (board_place e)) }
         ensures memory { MatchResult result (λ _. WroteStore self.old variable self.new) (λ _. self.new ≡ self.old) }
     {
