@@ -1,11 +1,11 @@
 -- What is encoded for a stack runs on it.
-use Rattle.std.specs.Prelude.{◌≡◌, ℕ, ◌+◌, ◌-◌, ◌*◌, ◌%◌, ◌≤◌, true, false, not, ◌&&◌, ltb, leb, List, [], ◌∷◌, ◌++◌, length, ◌==◌, nat_eq, nat_le, nat_lt, refl}
+use Rattle.std.specs.Prelude.{◌≡◌, ℕ, ◌+◌, ◌-◌, ◌*◌, ◌%◌, ◌≤◌, true, false, not, ◌&&◌, ltb, leb, List, [], ◌∷◌, ◌++◌, length, Some, ◌==◌, nat_eq, nat_le, nat_lt, refl}
 use Rattle.std.proofs.Common.{arith}
 use Rattle.std.proofs.lemmas.List.{length-append, length-take}
 use Rattle.std.proofs.lemmas.Bool.{and_parts, and_from, or_from, not_from_true, eqb-true, leb-true, ltb-true, eq-eqb, le-leb, le-ltb}
 use Rattle.pattern.specs.Items.{pattern_items}
 use Rattle.pattern.specs.Shapes.{reading}
-use Rattle.board.specs.Machines.{operand_letters, arity, leaf_total}
+use Rattle.board.specs.Machines.{Operation, operation_of, operand_letters, arity, leaf_total}
 use Rattle.board.specs.Acts.{before_last}
 use Rattle.board.specs.Laws.{LawfulMachine}
 use Rattle.processor.specs.Designs.{store_opcode}
@@ -77,8 +77,12 @@ stk_sound = record {
       };
 }
 
-pub stk_result_places : ResultsInPlaces stk_design
+-- every result lies in PLACE S
+pub result_in_stack : (n : ℕ) (o : Operation) → operation_of stk_machine n ≡ Some o → o.result_letter ≡ stack_place
 unfolding stk_operations
-stk_result_places n o e =
-    let in_stack = eqb-true o.result_letter stack_place (every_found (λ q. nat_eq q.result_letter stack_place) stk_operations refl n o e) in
-    (omega arith, omega arith)
+result_in_stack n o e =
+    eqb-true o.result_letter stack_place (every_found (λ q. nat_eq q.result_letter stack_place) stk_operations refl n o e)
+
+-- so in a PLACE
+pub stk_result_places : ResultsInPlaces stk_design
+stk_result_places n o e = (omega (arith, result_in_stack n o e), omega (arith, result_in_stack n o e))
