@@ -8,7 +8,8 @@ use tree::checked::CheckedStatement;
 
 mod finder;
 
-// A checked statement with the left part of each of its nodes: 0 where a node has not two parts.
+// A checked statement with the left part of each of its nodes: 0 where a node has not two parts. The statement stays whole, with its
+// promise, so the left parts are a row beside its nodes.
 #[derive(Clone, Copy)]
 pub struct CheckedTree {
     pub statement: CheckedStatement,

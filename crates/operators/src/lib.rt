@@ -87,6 +87,7 @@ impl Operator {
         }
     }
 
+    // The text itself, where a `Display` could only print it.
     pub fn name(self) -> &'static str
         ensures { result.now ≡ operator_name self }
     {

@@ -45,7 +45,7 @@ impl fmt::Display for CostKind {
     }
 }
 
-// A board by its name.
+// A board by its name. Where a command needs the board, each arm of a match names its type.
 #[derive(Clone, Copy, Debug, PartialEq, Eq)]
 pub enum BoardName {
     Reg,
@@ -113,6 +113,7 @@ fn description<'a>(words: Words, lines: &mut Lines<'a>) -> Result<&'a [u8], Stop
     text.ok_or(Stop::Expected("after the text of a description the line end"))
 }
 
+// The next word, and no more; no `TryFrom`, since it says what was expected of the line.
 fn cost_kind(mut words: Words) -> Result<CostKind, Stop> {
     let kind = match words.next() {
         Some(b"cycles") => CostKind::Cycles,
@@ -189,6 +190,7 @@ fn whole_setting(heap: Global, mut words: Words) -> Result<Vec<u32>, Stop> {
     Ok(variables)
 }
 
+// The word, if there is one; no `TryFrom`, since it says what was expected of the line.
 fn board_name(word: Option<&[u8]>) -> Result<BoardName, Stop> {
     match word {
         Some(b"reg") => Ok(BoardName::Reg),

@@ -15,6 +15,7 @@ pub struct Figures {
 }
 
 impl Figures {
+    // Made of two numbers, so no `TryFrom`.
     pub fn new(size: u32, cycles: u32) -> Option<Figures>
         ensures { MatchOption result ((size ≤ 99) × (cycles ≤ 999) → ⊥) (λ f. (f.size ≡ size) × (f.cycles ≡ cycles)) }
     {

@@ -31,7 +31,7 @@ fn read_text(text: &[u8]) -> Result<Description, ReadFault>
     }
 }
 
-// From the version on.
+// From the version on. Three cases, which a chain of `map_err` and `and_then` would say no plainer.
 fn read_version(text: &[u8]) -> Result<Description, ReadFault>
     requires { 4 ≤ length text.now }
     ensures { answer_of result ≡ versioned text.now (token_at text.now 4) }

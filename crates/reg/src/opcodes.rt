@@ -20,7 +20,7 @@ pub(crate) const DATA: u8 = b'D';
 // The PLACE of address registers.
 pub(crate) const ADDRESS: u8 = b'A';
 
-// What an instruction does; each has its number and its mnemonic.
+// What an instruction does; each has its number and its mnemonic. Boards differ in their tables, so each has its own.
 #[derive(Clone, Copy, Debug, PartialEq, Eq)]
 pub enum Opcode {
     Ldi,

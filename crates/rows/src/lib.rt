@@ -36,6 +36,7 @@ impl<T: Entry, const N: usize> Model for Row<T, N> {
     ghost inverse_ok = { entries_again N T.blank };
 }
 
+// Not derived: what a derived clone says of its entries does not give the blanks back.
 impl<T: Entry, const N: usize> Clone for Row<T, N> {
     ghost is_clone = { λ a b. b ≡ a };
 
@@ -95,6 +96,7 @@ impl<T: Entry, const N: usize> Row<T, N> {
     }
 }
 
+// Not derived: the entries alone are compared.
 impl<T: Entry + PartialEq, const N: usize> PartialEq for Row<T, N> {
     ghost eq = { pointwise T.eq };
 

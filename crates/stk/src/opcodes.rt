@@ -16,7 +16,7 @@ use processor::faults::UnknownNumber;
 
 const S: u8 = b'S';
 
-// The table's lines; those with two operands and those with one go by their operators.
+// The table's lines; those with two operands and those with one go by their operators. Boards differ in their tables, so each has its own.
 #[derive(Clone, Copy, Debug, PartialEq, Eq)]
 pub enum Opcode {
     Push,

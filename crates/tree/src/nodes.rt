@@ -12,7 +12,7 @@ pub const VARIABLES: usize = 64;
 // The number of the last variable.
 pub const LAST_VARIABLE: u32 = 63;
 
-// One node: an operator's number and a payload, each any word.
+// One node: an operator's number and a payload, each any word. A number and no `Operator`, since statements are handed in unchecked.
 #[derive(Clone, Copy, Debug, PartialEq, Eq)]
 pub struct Node {
     pub operator: u32,

@@ -1,4 +1,4 @@
-// A stack over the caller's memory, for entries of any kind.
+// A stack over the caller's memory, for entries of any kind. Memory with a length beside it stands here alone.
 ghost use Rattle.std.specs.Prelude.{◌≤◌, length};
 
 mod calls;

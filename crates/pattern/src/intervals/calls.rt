@@ -5,7 +5,7 @@ ghost use Rattle.pattern.specs.Ranges.{Admits, Within};
 use super::Interval;
 
 impl Interval {
-    // The words from `low` to `high`, if these are in order.
+    // The words from `low` to `high`, if these are in order. Made of two numbers, so no `TryFrom`.
     pub fn new(low: u32, high: u32) -> Option<Interval>
         ensures { MatchOption result (high < low) (λ i. (i.low ≡ low) × (i.high ≡ high)) }
     {

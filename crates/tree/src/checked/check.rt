@@ -57,7 +57,7 @@ fn variable_over(statement: Statement) -> Option<usize>
 }
 
 impl Statement<'_> {
-    // The statement with the promise that it keeps the rules, or the first fault in the order of checks.
+    // The statement with the promise that it keeps the rules, or the first fault in the order of checks, which a `TryFrom` would hide.
     pub fn check(self) -> Result<CheckedStatement, StatementFault>
         ensures { MatchResult result (λ c. (c.target ≡ self.entry.target) × (nodes_of c ≡ self.entry.nodes.now)) (λ e. StatementDenied self.entry.target self.entry.nodes.now (statement_number e) (statement_place e)) }
     {
