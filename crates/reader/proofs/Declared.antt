@@ -26,15 +26,15 @@ number_below k t (n ∷ ns) i e =
     (cases_Bool (same_text (text_of n) t))
 
 -- the name of text t has the number i
-module _ (g : Progress) (t letters : List ℕ) (same : letters ≡ t) where
-  pub found_is : (o : Option ℕ) → o ≡ number_from 0 letters (names_of g.description) → o ≡ declared_from 0 t (declarations_of g)
-  found_is o e = sym (declared_is 0 t (names_of g.description) ∙ ap (λ u. number_from 0 u (names_of g.description)) (sym same) ∙ sym e)
+module _ (g : Progress) (t : List ℕ) where
+  pub found_is : (o : Option ℕ) → o ≡ number_from 0 t (names_of g.description) → o ≡ declared_from 0 t (declarations_of g)
+  found_is o e = e ∙ sym (declared_is 0 t (names_of g.description))
 
-  pub found_below : (i : ℕ) → Some i ≡ number_from 0 letters (names_of g.description) → i < length (declarations_of g)
+  pub found_below : (i : ℕ) → Some i ≡ number_from 0 t (names_of g.description) → i < length (declarations_of g)
   found_below i e =
-      omega (arith, number_below 0 letters (names_of g.description) i (sym e), length-map (names_of g.description) declaration_of)
+      omega (arith, number_below 0 t (names_of g.description) i (sym e), length-map (names_of g.description) declaration_of)
 
-  pub found_small : (i : ℕ) → Some i ≡ number_from 0 letters (names_of g.description) → i < 16
+  pub found_small : (i : ℕ) → Some i ≡ number_from 0 t (names_of g.description) → i < 16
   found_small i e = omega (arith, found_below i e, length-map (names_of g.description) declaration_of, g.description.few_names)
 
 -- a name that is not there and for which there is room is not refused

@@ -1,8 +1,7 @@
 // The lines but for the rules' parts: what follows the header, declarations, the start, and how a rule begins.
-ghost use Rattle.std.specs.Prelude.{◌≡◌, ◌<◌, true, length, IfSome, nat_le};
-ghost use Rattle.lexer.specs.declared.Token.TheVariants.{Name};
+ghost use Rattle.std.specs.Prelude.{◌≡◌, ◌<◌, length, IfSome, nat_le};
 ghost use Rattle.pattern.specs.Letters.{letters_of};
-ghost use Rattle.reader.specs.Words.{is, declared_from};
+ghost use Rattle.reader.specs.Words.{declared_from};
 ghost use Rattle.reader.specs.Reading.{header_end, directive, new_name, name_place, start_name, start_end, rule_or_end, left_found};
 ghost use Rattle.reader.specs.States.{declarations_of, productions_of, stands, stepped, outcome_of};
 ghost use Rattle.reader.specs.Soundness.{Sound};
@@ -18,13 +17,12 @@ use pattern::names::ShortName;
 use pattern::places::Place;
 
 impl Progress {
-    // The number of the name that the token is.
-    pub(crate) fn number_of(&self, word: &Lexeme) -> Option<u8>
-        requires { is Name word.now.token ≡ true }
-        ensures number { result ≡ declared_from 0 word.now.text.now (declarations_of self.now) }
+    // The number of the name, if it is declared.
+    pub(crate) fn number_of(&self, name: &ShortName) -> Option<u8>
+        ensures number { result ≡ declared_from 0 (letters_of name.now) (declarations_of self.now) }
         ensures below { IfSome result (λ i. i < length (declarations_of self.now)) }
     {
-        let number = self.description.number_of(&word.name())?;
+        let number = self.description.number_of(name)?;
         u8::try_from(number).ok()
     }
 
@@ -70,16 +68,16 @@ impl Progress {
     pub(crate) fn new_name(&self, word: &Lexeme) -> Result<Option<Expect>, ReadFault>
         ensures { outcome_of self.now result ≡ stepped self.now new_name word.now }
     {
-        if !word.is(Token::Name) {
+        let Some(name) = word.name() else {
             return Err(ReadFault::Unexpected(word.place));
-        }
+        };
         if self.names_full() {
             return Err(ReadFault::TooMany(word.place));
         }
-        if self.number_of(word).is_some() {
+        if self.number_of(&name).is_some() {
             return Err(ReadFault::Repeated(word.place));
         }
-        Ok(Some(Expect::NamePlace(word.name())))
+        Ok(Some(Expect::NamePlace(name)))
     }
 
     pub(crate) fn name_place(
@@ -108,10 +106,10 @@ impl Progress {
     pub(crate) fn start_name(&mut self, word: &Lexeme) -> Result<Option<Expect>, ReadFault>
         ensures { outcome_of self.new result ≡ stepped self.old start_name word.now }
     {
-        if !word.is(Token::Name) {
+        let Some(name) = word.name() else {
             return Err(ReadFault::Unexpected(word.place));
-        }
-        let Some(number) = self.number_of(word) else {
+        };
+        let Some(number) = self.number_of(&name) else {
             return Err(ReadFault::Unknown(word.place));
         };
         let Ok(()) = self.description.set_start(number as usize) else {
@@ -137,8 +135,8 @@ impl Progress {
     pub(crate) fn rule_or_end(&self, word: &Lexeme) -> Result<Option<Expect>, ReadFault>
         ensures { outcome_of self.now result ≡ stepped self.now rule_or_end word.now }
     {
-        if word.is(Token::Name) {
-            return self.left_name(word);
+        if let Some(name) = word.name() {
+            return self.left_name(&name, word.place);
         }
         if word.is(Token::End) {
             return Ok(None);
@@ -146,12 +144,12 @@ impl Progress {
         Err(ReadFault::Unexpected(word.place))
     }
 
-    fn left_name(&self, word: &Lexeme) -> Result<Option<Expect>, ReadFault>
-        requires { is Name word.now.token ≡ true }
-        ensures { outcome_of self.now result ≡ left_found (stands self.now rule_or_end) word.now.place (declared_from 0 word.now.text.now (declarations_of self.now)) }
+    // A rule whose left name stands at `place`.
+    fn left_name(&self, name: &ShortName, place: usize) -> Result<Option<Expect>, ReadFault>
+        ensures { outcome_of self.now result ≡ left_found (stands self.now rule_or_end) place (declared_from 0 (letters_of name.now) (declarations_of self.now)) }
     {
-        let Some(left) = self.number_of(word) else {
-            return Err(ReadFault::Unknown(word.place));
+        let Some(left) = self.number_of(name) else {
+            return Err(ReadFault::Unknown(place));
         };
         if self.rules_full() {
             return Err(ReadFault::TooMany(self.line_start));

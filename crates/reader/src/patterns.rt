@@ -1,8 +1,8 @@
 // The pattern of a rule.
-ghost use Rattle.std.specs.Prelude.{◌≡◌, ◌<◌, true, ◌∷◌, length, drop, Some};
-ghost use Rattle.lexer.specs.declared.Token.TheVariants.{Name};
+ghost use Rattle.std.specs.Prelude.{◌≡◌, ◌<◌, ◌∷◌, length, drop, Some};
+ghost use Rattle.pattern.specs.Letters.{letters_of};
 ghost use Rattle.description.specs.Outlines.{part_of};
-ghost use Rattle.reader.specs.Words.{is, declared_from, operator_called};
+ghost use Rattle.reader.specs.Words.{declared_from, operator_called};
 ghost use Rattle.reader.specs.Reading.{left_colon, first_item, item, opening, after_item, after_constant, low_end, two_dots, high_end, operand_item, capital_item, item_done};
 ghost use Rattle.reader.specs.Sketches.{bracket_of, brackets_of, items_taken};
 ghost use Rattle.reader.specs.States.{draft_of, declarations_of, stands, stepped, outcome_of, part_for, EndsInConstant};
@@ -15,6 +15,7 @@ use lexer::Token;
 use operators::Operator;
 use pattern::intervals::Interval;
 use pattern::items::Item;
+use pattern::names::ShortName;
 use std::str::from_utf8;
 
 fn operator_called(letters: &[u8]) -> Option<Operator>
@@ -78,8 +79,8 @@ impl Progress {
     ) -> Result<Option<Expect>, ReadFault>
         ensures { outcome_of self.now result ≡ stepped self.now (item (draft_of draft)) word.now }
     {
-        if word.is(Token::Name) {
-            return self.operand(draft, word);
+        if let Some(name) = word.name() {
+            return self.operand(draft, &name, word.place);
         }
         if !word.is(Token::Capitals) {
             return Err(ReadFault::Unexpected(word.place));
@@ -90,12 +91,17 @@ impl Progress {
         }
     }
 
-    fn operand(&self, draft: Sketch, word: &Lexeme) -> Result<Option<Expect>, ReadFault>
-        requires { is Name word.now.token ≡ true }
-        ensures { outcome_of self.now result ≡ operand_item (stands self.now (item (draft_of draft))) (draft_of draft) word.now.place (declared_from 0 word.now.text.now (declarations_of self.now)) }
+    // An operand whose name stands at `place`.
+    fn operand(
+        &self,
+        draft: Sketch,
+        name: &ShortName,
+        place: usize,
+    ) -> Result<Option<Expect>, ReadFault>
+        ensures { outcome_of self.now result ≡ operand_item (stands self.now (item (draft_of draft))) (draft_of draft) place (declared_from 0 (letters_of name.now) (declarations_of self.now)) }
     {
-        let Some(number) = self.number_of(word) else {
-            return Err(ReadFault::Unknown(word.place));
+        let Some(number) = self.number_of(name) else {
+            return Err(ReadFault::Unknown(place));
         };
         match draft.gain(Item::Operand(number)) {
             Some(longer) => Ok(Some(Expect::AfterPart(longer.part_read()))),

@@ -50,8 +50,8 @@ impl Progress {
     pub(crate) fn mnemonic(&self, draft: Sketch, word: &Lexeme) -> Result<Option<Expect>, ReadFault>
         ensures { outcome_of self.now result ≡ stepped self.now (mnemonic_word (draft_of draft)) word.now }
     {
-        if word.is(Token::Name) {
-            return Ok(Some(Expect::Size(Some(word.name()), draft)));
+        if let Some(name) = word.name() {
+            return Ok(Some(Expect::Size(Some(name), draft)));
         }
         if !word.is(Token::Minus) {
             return Err(ReadFault::Unexpected(word.place));

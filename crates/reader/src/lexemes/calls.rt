@@ -1,5 +1,5 @@
 // What is asked of a token.
-ghost use Rattle.std.specs.Prelude.{◌≡◌, true};
+ghost use Rattle.std.specs.Prelude.{◌≡◌, true, false, MatchOption};
 ghost use Rattle.pattern.specs.Letters.{letters_of};
 ghost use Rattle.lexer.specs.declared.Token.TheVariants.{Name};
 ghost use Rattle.description.specs.Names.{same_text};
@@ -22,15 +22,14 @@ impl Lexeme<'_> {
         }
     }
 
-    // The name that the bytes are.
-    pub(crate) fn name(&self) -> ShortName
-        requires { is Name self.now.token ≡ true }
-        ensures { letters_of result ≡ self.now.text.now }
+    // The name that the bytes are, if the token is a name.
+    pub(crate) fn name(&self) -> Option<ShortName>
+        ensures { MatchOption result (is Name self.now.token ≡ false) (λ n. (is Name self.now.token ≡ true) × (letters_of n ≡ self.now.text.now)) }
     {
-        let Ok(name) = ShortName::try_from(self.text) else {
-            unreachable()
-        };
-        name
+        if !self.is(Token::Name) {
+            return None;
+        }
+        ShortName::try_from(self.text).ok()
     }
 
     pub(crate) fn spells(&self, letters: &[u8]) -> bool
