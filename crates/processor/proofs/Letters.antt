@@ -11,21 +11,25 @@ use Rattle.processor.specs.Designs.{Design}
 use Rattle.processor.specs.Codes.{waiting_by, waiting_after_all}
 use Rattle.processor.specs.Soundness.{IsCapital, ResultsInPlaces}
 
-module _ (d : Design) (results : ResultsInPlaces d) where
-  capitals_by : (n : ℕ) (w : List ℕ) → AllByRecursion IsCapital w → (r : Option Operation) → operation_of d.fixed_part n ≡ r → AllByRecursion IsCapital (waiting_by w r)
-  capitals_by n w h None e = h
-  capitals_by n w h (Some o) e = All-push IsCapital (before_last (arity o) w) o.result_letter (All-take IsCapital _ w h) (results n o e)
+-- what is so of the letters of all results is so of all that wait
+module _ (d : Design) (Q : ℕ → Type 0) (results : (n : ℕ) (o : Operation) → operation_of d.fixed_part n ≡ Some o → Q o.result_letter) where
+  letters_by : (n : ℕ) (w : List ℕ) → AllByRecursion Q w → (r : Option Operation) → operation_of d.fixed_part n ≡ r → AllByRecursion Q (waiting_by w r)
+  letters_by n w h None e = h
+  letters_by n w h (Some o) e = All-push Q (before_last (arity o) w) o.result_letter (All-take Q _ w h) (results n o e)
 
-  capitals_wait : (w : List ℕ) (code : List Act) → AllByRecursion IsCapital w → AllByRecursion IsCapital (waiting_after_all d.fixed_part w code)
-  capitals_wait w [] h = h
-  capitals_wait w (did_issue op ps ∷ rest) h =
-      capitals_wait (waiting_by w (operation_of d.fixed_part op)) rest (capitals_by op w h (operation_of d.fixed_part op) refl)
-  capitals_wait w (did_store v ∷ rest) h = capitals_wait (before_last 1 w) rest (All-take IsCapital _ w h)
+  letters_wait : (w : List ℕ) (code : List Act) → AllByRecursion Q w → AllByRecursion Q (waiting_after_all d.fixed_part w code)
+  letters_wait w [] h = h
+  letters_wait w (did_issue op ps ∷ rest) h =
+      letters_wait (waiting_by w (operation_of d.fixed_part op)) rest (letters_by op w h (operation_of d.fixed_part op) refl)
+  letters_wait w (did_store v ∷ rest) h = letters_wait (before_last 1 w) rest (All-take Q _ w h)
 
   -- w are the letters that wait after some code
+  pub letters_all : (w : List ℕ) (code : List Act) → waiting_after_all d.fixed_part [] code ≡ w → AllByRecursion Q w
+  letters_all w code waits = subst (AllByRecursion Q) waits (letters_wait [] code tt)
+
+module _ (d : Design) (results : ResultsInPlaces d) where
   letter_capital : (w : List ℕ) (code : List Act) → waiting_after_all d.fixed_part [] code ≡ w → (i : ℕ) → i < length w → IsCapital (get_or w i 0)
-  letter_capital w code waits i there =
-      All-get_or IsCapital w i 0 there (subst (AllByRecursion IsCapital) waits (capitals_wait [] code tt))
+  letter_capital w code waits i there = All-get_or IsCapital w i 0 there (letters_all d IsCapital results w code waits)
 
   -- a is the letter at depth i
   pub has_place : (w : List ℕ) (code : List Act) → waiting_after_all d.fixed_part [] code ≡ w → (i a : ℕ) → i < length w → a ≡ get_or w i 0 → (r : Option Place) → MatchOption r (IsCapital a → ⊥) (λ p. p.letter ≡ a) → MatchOption r (length w ≤ i) (λ p. (i < length w) × (p.letter ≡ get_or w i 0))

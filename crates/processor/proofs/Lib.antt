@@ -5,3 +5,4 @@ pub mod Steps
 pub mod Keeping
 pub mod Letters
 pub mod Growth
+pub mod Depths

@@ -1,5 +1,5 @@
 -- The state of a board, and what a call writes into its memory.
-use Rattle.std.specs.Prelude.{◌≡◌, ℕ, List, [], ◌∷◌, ◌++◌, length, take, drop, reverse, Some}
+use Rattle.std.specs.Prelude.{◌≡◌, ℕ, ◌≤◌, List, [], ◌∷◌, ◌++◌, length, take, drop, reverse, Some}
 use Rattle.tree.specs.Stacks.{held, beyond}
 use Rattle.board.specs.Machines.{Operation, operation_of, leaf_total}
 use Rattle.board.specs.States.{State, end_from}
@@ -49,3 +49,7 @@ module _ {P : Type 0} {by : Ghosts P} where
 abbrev pub EncodedIsRun : {P : Type 0} → Ghosts P → Type 0
 EncodedIsRun {P} by =
     (b : CodedBoard P by) (σ : List ℕ) → length σ ≡ 64 → Simulated by.design (code_words b) σ (end_from (board_state b) σ)
+
+-- no more operands wait than the depth limit allows
+abbrev pub WaitsWithin : {P : Type 0} → Ghosts P → Type 0
+WaitsWithin {P} by = (b : CodedBoard P by) → length (waiting_places b) ≤ by.design.fixed_part.deepest

@@ -1,5 +1,5 @@
 // What is true of every processor, for whoever reads the contracts.
-ghost use Rattle.processor.specs.CodedBoards.{EncodedIsRun};
+ghost use Rattle.processor.specs.CodedBoards.{EncodedIsRun, WaitsWithin};
 ghost use Rattle.processor.specs.Meanings.{EncodedRuns};
 
 use crate::Processor;
@@ -12,4 +12,9 @@ pub fn encoded_runs()
 // What a board has encoded the simulator never refuses with 64 variables, and it leaves the end setting.
 pub fn encoded_is_run<P: Processor>()
     ensures { EncodedIsRun P.Processor }
+{}
+
+// No more operands wait than the depth limit allows.
+pub fn waits_within<P: Processor>()
+    ensures { WaitsWithin P.Processor }
 {}

@@ -64,9 +64,9 @@ pub trait Processor: Copy {
     fn take(&mut self, first: u32) -> Result<u32, Misplaced>
         ensures { MatchResult result (λ v. (v ≡ stored_value design first (own self.old)) × (own self.new ≡ design.after_store first (own self.old))) (λ _. (design.misplaced_at first 1 0 (own self.old) ≡ true) × (own self.new ≡ own self.old)) };
 
-    // Each letter that waits makes a PLACE.
     // What a processor owes, so that what is encoded for it runs.
     ghost sound: { Sound design };
 
+    // Each letter of a result makes a PLACE.
     ghost result_places: { ResultsInPlaces design };
 }

@@ -2,5 +2,6 @@
 #![tactic(auto)]
 
 pub mod boards;
+pub mod laws;
 mod opcodes;
 pub mod stacks;

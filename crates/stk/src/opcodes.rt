@@ -14,7 +14,8 @@ use pattern::patterns::Pattern;
 use pattern::places::Place;
 use processor::faults::UnknownNumber;
 
-const S: u8 = b'S';
+// The PLACE of the stack.
+pub(crate) const S: u8 = b'S';
 
 // The table's lines; those with two operands and those with one go by their operators. Boards differ in their tables, so each has its own.
 #[derive(Clone, Copy, Debug, PartialEq, Eq)]

@@ -5,7 +5,7 @@ ghost use Rattle.stk.specs.Stacks.{stacked};
 ghost use Rattle.stk.specs.Soundness.{stk_sound, stk_result_places};
 
 use super::{DEPTH_LIMIT, ValueStack};
-use crate::opcodes::Opcode;
+use crate::opcodes::{Opcode, S};
 use board::instructions::Instruction;
 use pattern::places::Place;
 use processor::Processor;
@@ -27,7 +27,7 @@ impl Processor for ValueStack {
     }
 
     fn store_place() -> Place {
-        let Ok(place) = Place::try_from(b'S') else {
+        let Ok(place) = Place::try_from(S) else {
             unreachable()
         };
         place
