@@ -18,7 +18,8 @@ pub struct Size {
 }
 
 // The cycles of the longest instruction.
-// A type of its own beside `Cycles`: the two differ in their sum, an operation, and that is what `Cost` is generic in.
+// A type of its own beside `Cycles`: the two differ in their sum, an operation, and that is what `Cost` is generic in. Their order and
+// their printing are alike, a line each.
 #[derive(Clone, Copy, Debug, PartialEq, Eq, PartialOrd, Ord)]
 pub struct Longest {
     pub amount: u32,

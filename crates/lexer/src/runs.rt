@@ -3,7 +3,7 @@ ghost use Rattle.std.specs.Prelude.{◌≡◌, ℕ, ◌^◌, ◌<◌, ◌≤◌,
 ghost use Rattle.std.specs.Option.{SomeIff};
 ghost use Rattle.lexer.specs.Bytes.{is_in, is_digit, longest_run, base_ten};
 
-// What a run is made of.
+// What a run is made of. An enum and no closure, so that contracts name the class.
 #[derive(Clone, Copy)]
 pub(crate) enum Class {
     Space,

@@ -1,4 +1,5 @@
 // What a match of a pattern at a node says.
+use pattern::patterns::{LEAF_LIMIT, OPERAND_LIMIT};
 use rows::{Entry, Row};
 
 // An operand by its number, and the node that it falls on.
@@ -22,6 +23,6 @@ impl Entry for OperandAt {
 // Where the operands fall and the payloads of the leaves, from the left.
 #[derive(Clone, Copy, PartialEq)]
 pub struct Match {
-    pub operands: Row<OperandAt, 2>,
-    pub payloads: Row<u32, 2>,
+    pub operands: Row<OperandAt, OPERAND_LIMIT>,
+    pub payloads: Row<u32, LEAF_LIMIT>,
 }

@@ -5,6 +5,7 @@ ghost use Rattle.matching.specs.Parts.{left_parts};
 
 use rows::Row;
 use tree::checked::CheckedStatement;
+use tree::nodes::NODE_LIMIT;
 
 mod finder;
 
@@ -13,6 +14,6 @@ mod finder;
 #[derive(Clone, Copy)]
 pub struct CheckedTree {
     pub statement: CheckedStatement,
-    pub left: Row<usize, 256>,
+    pub left: Row<usize, NODE_LIMIT>,
     ghost parted: { left ≡ left_parts (nodes_of statement) },
 }

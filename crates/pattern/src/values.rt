@@ -38,6 +38,7 @@ fn value_of(items: &[Item], operands: &[u32], payloads: &[u32], setting: &[u32])
 {
     let mut memory = [0; ITEM_LIMIT];
     let mut stack = Stack::new(&mut memory);
+    // How many operands and leaves stand before the item: they are used up from the left, and the items are walked from the right.
     let (mut operand, mut leaf) = counts(items);
     for item in items.iter().rev() {
         operand -= item.operands();

@@ -1,7 +1,7 @@
 // What can stand in a row.
 ghost use Rattle.std.specs.Prelude.{◌≡◌};
 
-// A plain value with one that fills unused places.
+// A plain value with one that fills unused places. Not `Default`, which does not say which value it gives.
 pub trait Entry: Copy {
     ghost blank: { Self };
 

@@ -47,7 +47,7 @@ fn value(nodes: &[Node], setting: &[u32]) -> u32
 }
 
 // Gives the statement's variable the value of its tree.
-fn assign(statement: &CheckedStatement, setting: &mut [u32; 64])
+fn assign(statement: &CheckedStatement, setting: &mut [u32; VARIABLES])
     ensures { (t : Tree) → postfix t ≡ nodes_of statement.now → setting.new ≡ slice_set setting.old statement.now.target (value_of setting.old t) }
 {
     let value = value(statement.nodes.as_slice(), setting);
@@ -64,6 +64,7 @@ pub fn evaluate(statements: &[Statement], variables: &mut [u32]) -> Result<(), E
     let mut setting = [0; VARIABLES];
     setting.copy_from_slice(variables);
     for (i, statement) in statements.iter().enumerate() {
+        // As a `map_err` with `?` what is promised of a refusal does not close.
         match statement.check() {
             Ok(checked) => assign(&checked, &mut setting),
             Err(fault) => return Err(EvaluationFault::Refused {

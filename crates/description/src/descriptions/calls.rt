@@ -142,7 +142,7 @@ impl Description {
     pub fn start_number(&self) -> Option<usize>
         ensures { result ≡ start_of self.now }
     {
-        (self.names.len() > 0).then_some(self.start)
+        (!self.names.is_empty()).then_some(self.start)
     }
 
     // The rule of a number, from 1.

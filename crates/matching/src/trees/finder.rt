@@ -10,7 +10,7 @@ use crate::faults::PartsFault;
 use operators::Operator;
 use rows::Row;
 use tree::checked::CheckedStatement;
-use tree::nodes::Node;
+use tree::nodes::{NODE_LIMIT, Node};
 use tree::stack::Stack;
 
 // The left part of a node; the node's number takes the place of its parts' roots, so that there is room for it.
@@ -37,7 +37,7 @@ fn left_of(node: Node, number: usize, roots: &mut Stack<usize>) -> usize
 }
 
 // The left parts of all nodes. No push is refused: the row has a place for each of at most 256 nodes.
-fn parted(nodes: &[Node], memory: &mut [usize]) -> Row<usize, 256>
+fn parted(nodes: &[Node], memory: &mut [usize]) -> Row<usize, NODE_LIMIT>
     requires few_nodes { length nodes.now ≤ 256 }
     requires room { length nodes.now ≤ length memory.old }
     ensures { result ≡ left_parts nodes.now }

@@ -4,7 +4,7 @@ ghost use Rattle.pattern.specs.Items.{count_of_leaves, count_of_operands};
 
 use crate::items::Item;
 
-// How many operands there are, and how many leaves.
+// How many operands there are, and how many leaves: two sums in one walk.
 pub(crate) fn counts(items: &[Item]) -> (usize, usize)
     ensures { (result.0 ≡ count_of_operands items.now) × (result.1 ≡ count_of_leaves items.now) }
 {
