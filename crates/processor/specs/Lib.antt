@@ -11,3 +11,4 @@ pub mod Faults
 pub mod Requests
 pub mod CodedBoards
 pub mod Lawful
+pub mod Mnemonics

@@ -15,6 +15,7 @@ use pattern::places::Place;
 pub mod boards;
 pub mod faults;
 pub mod laws;
+pub mod mnemonics;
 pub mod naming;
 mod requests;
 pub mod simulation;

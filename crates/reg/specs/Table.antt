@@ -7,6 +7,7 @@ use Rattle.pattern.specs.declared.intervals.Interval.{Interval}
 use Rattle.pattern.specs.Shapes.{Shape, operand_shape, constant_shape, variable_shape, unary_shape, binary_shape}
 use Rattle.board.specs.Machines.{Operation, Machine, first_numbered}
 use Rattle.reg.specs.declared.opcodes.Opcode.{Opcode}
+use Rattle.processor.specs.Mnemonics.{pair_letters, single_letters}
 use Rattle.reg.specs.declared.opcodes.Opcode.TheVariants.{Ldi, Ldq, Ldv, Pair, Single, Addi, Shli, Mova, Movd, Lea, Adda}
 
 -- the letter D, for data registers, and the letter A, for address registers
@@ -51,18 +52,8 @@ abbrev pub mnemonic_of : Opcode → List ℕ
 mnemonic_of Ldi = codes "ldi"
 mnemonic_of Ldq = codes "ldq"
 mnemonic_of Ldv = codes "ldv"
-mnemonic_of (Pair Add) = codes "add"
-mnemonic_of (Pair Sub) = codes "sub"
-mnemonic_of (Pair Mul) = codes "mul"
-mnemonic_of (Pair And) = codes "and"
-mnemonic_of (Pair Or) = codes "or"
-mnemonic_of (Pair Xor) = codes "xor"
-mnemonic_of (Pair Shl) = codes "shl"
-mnemonic_of (Pair Shr) = codes "shr"
-mnemonic_of (Pair Sar) = codes "sar"
-mnemonic_of (Pair Lt) = codes "lt"
-mnemonic_of (Single Neg) = codes "neg"
-mnemonic_of (Single Not) = codes "not"
+mnemonic_of (Pair o) = pair_letters o
+mnemonic_of (Single o) = single_letters o
 mnemonic_of Addi = codes "addi"
 mnemonic_of Shli = codes "shli"
 mnemonic_of Mova = codes "mova"

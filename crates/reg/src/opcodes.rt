@@ -13,6 +13,7 @@ use pattern::names::ShortName;
 use pattern::patterns::Pattern;
 use pattern::places::Place;
 use processor::faults::UnknownNumber;
+use processor::mnemonics;
 
 // The PLACE of data registers, from which a store takes its operand.
 pub(crate) const DATA: u8 = b'D';
@@ -107,18 +108,8 @@ impl Opcode {
             Opcode::Ldi => b"ldi",
             Opcode::Ldq => b"ldq",
             Opcode::Ldv => b"ldv",
-            Opcode::Pair(Binary::Add) => b"add",
-            Opcode::Pair(Binary::Sub) => b"sub",
-            Opcode::Pair(Binary::Mul) => b"mul",
-            Opcode::Pair(Binary::And) => b"and",
-            Opcode::Pair(Binary::Or) => b"or",
-            Opcode::Pair(Binary::Xor) => b"xor",
-            Opcode::Pair(Binary::Shl) => b"shl",
-            Opcode::Pair(Binary::Shr) => b"shr",
-            Opcode::Pair(Binary::Sar) => b"sar",
-            Opcode::Pair(Binary::Lt) => b"lt",
-            Opcode::Single(Unary::Neg) => b"neg",
-            Opcode::Single(Unary::Not) => b"not",
+            Opcode::Pair(operator) => mnemonics::of_pair(operator),
+            Opcode::Single(operator) => mnemonics::of_single(operator),
             Opcode::Addi => b"addi",
             Opcode::Shli => b"shli",
             Opcode::Mova => b"mova",

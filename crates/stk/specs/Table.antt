@@ -7,6 +7,7 @@ use Rattle.pattern.specs.declared.intervals.Interval.{Interval}
 use Rattle.pattern.specs.Shapes.{Shape, operand_shape, constant_shape, variable_shape, unary_shape, binary_shape}
 use Rattle.board.specs.Machines.{Operation, Machine, first_numbered}
 use Rattle.stk.specs.declared.opcodes.Opcode.{Opcode}
+use Rattle.processor.specs.Mnemonics.{pair_letters, single_letters}
 use Rattle.stk.specs.declared.opcodes.Opcode.TheVariants.{Push, Load, Pair, Single, Inc, Addv, Madd}
 
 -- the letter S
@@ -43,18 +44,8 @@ opcode_of n = first_numbered number_of all_opcodes n
 abbrev pub mnemonic_of : Opcode → List ℕ
 mnemonic_of Push = codes "push"
 mnemonic_of Load = codes "load"
-mnemonic_of (Pair Add) = codes "add"
-mnemonic_of (Pair Sub) = codes "sub"
-mnemonic_of (Pair Mul) = codes "mul"
-mnemonic_of (Pair And) = codes "and"
-mnemonic_of (Pair Or) = codes "or"
-mnemonic_of (Pair Xor) = codes "xor"
-mnemonic_of (Pair Shl) = codes "shl"
-mnemonic_of (Pair Shr) = codes "shr"
-mnemonic_of (Pair Sar) = codes "sar"
-mnemonic_of (Pair Lt) = codes "lt"
-mnemonic_of (Single Neg) = codes "neg"
-mnemonic_of (Single Not) = codes "not"
+mnemonic_of (Pair o) = pair_letters o
+mnemonic_of (Single o) = single_letters o
 mnemonic_of Inc = codes "inc"
 mnemonic_of Addv = codes "addv"
 mnemonic_of Madd = codes "madd"

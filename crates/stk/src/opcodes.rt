@@ -13,6 +13,7 @@ use pattern::names::ShortName;
 use pattern::patterns::Pattern;
 use pattern::places::Place;
 use processor::faults::UnknownNumber;
+use processor::mnemonics;
 
 // The PLACE of the stack.
 pub(crate) const S: u8 = b'S';
@@ -91,18 +92,8 @@ impl Opcode {
         match self {
             Opcode::Push => b"push",
             Opcode::Load => b"load",
-            Opcode::Pair(Binary::Add) => b"add",
-            Opcode::Pair(Binary::Sub) => b"sub",
-            Opcode::Pair(Binary::Mul) => b"mul",
-            Opcode::Pair(Binary::And) => b"and",
-            Opcode::Pair(Binary::Or) => b"or",
-            Opcode::Pair(Binary::Xor) => b"xor",
-            Opcode::Pair(Binary::Shl) => b"shl",
-            Opcode::Pair(Binary::Shr) => b"shr",
-            Opcode::Pair(Binary::Sar) => b"sar",
-            Opcode::Pair(Binary::Lt) => b"lt",
-            Opcode::Single(Unary::Neg) => b"neg",
-            Opcode::Single(Unary::Not) => b"not",
+            Opcode::Pair(operator) => mnemonics::of_pair(operator),
+            Opcode::Single(operator) => mnemonics::of_single(operator),
             Opcode::Inc => b"inc",
             Opcode::Addv => b"addv",
             Opcode::Madd => b"madd",
