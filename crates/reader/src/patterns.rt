@@ -9,7 +9,7 @@ ghost use Rattle.reader.specs.States.{draft_of, declarations_of, stands, stepped
 
 use crate::faults::ReadFault;
 use crate::lexemes::Lexeme;
-use crate::progress::{Expect, Progress};
+use crate::progress::{Expect, LowEnd, Progress};
 use crate::sketches::{Opened, Sketch};
 use lexer::Token;
 use operators::Operator;
@@ -130,6 +130,7 @@ impl Progress {
     }
 
     // The bracket of an operator with `arity` parts at `place`.
+    // The `requires` is a clause and no ghost field: it holds only while the operator, whose parts are to come, stands last.
     pub(crate) fn opening(
         &self,
         arity: usize,
@@ -202,38 +203,39 @@ impl Progress {
     pub(crate) fn low_end(&self, draft: Sketch, word: &Lexeme) -> Result<Option<Expect>, ReadFault>
         ensures { outcome_of self.now result ≡ stepped self.now (low_end (draft_of draft)) word.now }
     {
-        let low = word.number_upto(u32::MAX)?;
-        Ok(Some(Expect::TwoDots(low, word.place, draft)))
+        let low = LowEnd {
+            value: word.number_upto(u32::MAX)?,
+            place: word.place,
+        };
+        Ok(Some(Expect::TwoDots(low, draft)))
     }
 
     pub(crate) fn two_dots(
         &self,
-        low: u32,
-        low_place: usize,
+        low: LowEnd,
         draft: Sketch,
         word: &Lexeme,
     ) -> Result<Option<Expect>, ReadFault>
-        ensures { outcome_of self.now result ≡ stepped self.now (two_dots low low_place (draft_of draft)) word.now }
+        ensures { outcome_of self.now result ≡ stepped self.now (two_dots low.value low.place (draft_of draft)) word.now }
     {
         if !word.is(Token::Dots) {
             return Err(ReadFault::Unexpected(word.place));
         }
-        Ok(Some(Expect::HighEnd(low, low_place, draft)))
+        Ok(Some(Expect::HighEnd(low, draft)))
     }
 
     pub(crate) fn high_end(
         &self,
-        low: u32,
-        low_place: usize,
+        low: LowEnd,
         draft: Sketch,
         word: &Lexeme,
     ) -> Result<Option<Expect>, ReadFault>
         requires { EndsInConstant (draft_of draft).so_far }
-        ensures { outcome_of self.now result ≡ stepped self.now (high_end low low_place (draft_of draft)) word.now }
+        ensures { outcome_of self.now result ≡ stepped self.now (high_end low.value low.place (draft_of draft)) word.now }
     {
         let high = word.number_upto(u32::MAX)?;
-        let Some(interval) = Interval::new(low, high) else {
-            return Err(ReadFault::OverLimit(low_place));
+        let Some(interval) = Interval::new(low.value, high) else {
+            return Err(ReadFault::OverLimit(low.place));
         };
         Ok(Some(Expect::AfterPart(draft.ranged(interval))))
     }

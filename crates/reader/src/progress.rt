@@ -3,6 +3,13 @@ use crate::sketches::Sketch;
 use description::descriptions::Description;
 use pattern::names::ShortName;
 
+// The low end of a constant's range, and where it stands.
+#[derive(Clone, Copy)]
+pub struct LowEnd {
+    pub value: u32,
+    pub place: usize,
+}
+
 // What may follow, with what has been read of the line.
 #[derive(Clone, Copy)]
 pub enum Expect {
@@ -22,9 +29,8 @@ pub enum Expect {
     AfterPart(Sketch),
     AfterConstant(Sketch),
     LowEnd(Sketch),
-    // Holds the low end and its place.
-    TwoDots(u32, usize, Sketch),
-    HighEnd(u32, usize, Sketch),
+    TwoDots(LowEnd, Sketch),
+    HighEnd(LowEnd, Sketch),
     Mnemonic(Sketch),
     // Holds the mnemonic, and none for a rename.
     Size(Option<ShortName>, Sketch),

@@ -5,6 +5,7 @@ ghost use Rattle.reader.specs.Reading.{operands_among, leaves_among};
 ghost use Rattle.reader.specs.Sketches.{blank_bracket, brackets_of, items_taken};
 
 use pattern::items::Item;
+use pattern::patterns::ITEM_LIMIT;
 use rows::{Entry, Row};
 
 mod calls;
@@ -34,10 +35,10 @@ impl Entry for Opened {
 #[derive(Clone, Copy)]
 pub struct Sketch {
     pub left: u8,
-    pub items: Row<Item, 7>,
+    pub items: Row<Item, ITEM_LIMIT>,
     pub operands: usize,
     pub leaves: usize,
-    pub opened: Row<Opened, 7>,
+    pub opened: Row<Opened, ITEM_LIMIT>,
     ghost few: { length items ≤ 7 },
     ghost counted: { operands ≡ operands_among (map part_of items) },
     ghost tallied: { leaves ≡ leaves_among (map part_of items) },

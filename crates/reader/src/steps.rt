@@ -9,6 +9,7 @@ use crate::progress::{Expect, Progress};
 
 impl Progress {
     // What may follow holds what has been read, so each of them is a variant with its data, and one function answers each.
+    // What has been read and the token that comes next are two parameters: a struct of both would be made anew at each token.
     pub(crate) fn step(
         &mut self,
         expect: Expect,
@@ -33,8 +34,8 @@ impl Progress {
             Expect::AfterPart(draft) => self.after_part(draft, word),
             Expect::AfterConstant(draft) => self.after_constant(draft, word),
             Expect::LowEnd(draft) => self.low_end(draft, word),
-            Expect::TwoDots(low, place, draft) => self.two_dots(low, place, draft, word),
-            Expect::HighEnd(low, place, draft) => self.high_end(low, place, draft, word),
+            Expect::TwoDots(low, draft) => self.two_dots(low, draft, word),
+            Expect::HighEnd(low, draft) => self.high_end(low, draft, word),
             Expect::Mnemonic(draft) => self.mnemonic(draft, word),
             Expect::Size(mnemonic, draft) => self.size(mnemonic, draft, word),
             Expect::Cycles(size, mnemonic, draft) => self.cycles(size, mnemonic, draft, word),

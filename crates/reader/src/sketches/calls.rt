@@ -49,6 +49,7 @@ impl Sketch {
     }
 
     // A part of the innermost bracket, or the pattern, is read.
+    // The `requires` is a clause and no ghost field: it holds only while an item that no bracket counts yet stands last.
     pub(crate) fn part_read(mut self) -> Sketch
         requires { items_taken (brackets_of self.opened) < length self.items }
         ensures { draft_of result ≡ part_read (draft_of self) }
@@ -61,6 +62,7 @@ impl Sketch {
     }
 
     // With one bracket more, of an operator with `arity` parts at `place`.
+    // The `requires` is a clause and no ghost field, as that of `part_read`.
     pub(crate) fn open(mut self, arity: usize, place: usize) -> Sketch
         requires { items_taken (brackets_of self.opened) < length self.items }
         ensures { draft_of result ≡ opened_in (draft_of self) arity place }
