@@ -5,10 +5,10 @@ use Rattle.reader.specs.Reading.{Bracket}
 
 -- what stands in the unused places of a row of brackets
 abbrev pub blank_bracket : Opened
-blank_bracket = record { arity = 0; place = 0; done = 0 }
+blank_bracket = record { head = record { arity = 0; place = 0 }; done = 0 }
 
 abbrev pub bracket_of : Opened → Bracket
-bracket_of b = record { wants = b.arity; stands = b.place; filled = b.done }
+bracket_of b = record { wants = b.head.arity; stands = b.head.place; filled = b.done }
 
 -- the brackets with the innermost first, of a row that has it last
 abbrev pub brackets_of : List Opened → List Bracket

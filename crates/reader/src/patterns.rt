@@ -10,7 +10,7 @@ ghost use Rattle.reader.specs.States.{draft_of, declarations_of, stands, stepped
 use crate::faults::ReadFault;
 use crate::lexemes::Lexeme;
 use crate::progress::{Expect, LowEnd, Progress};
-use crate::sketches::{Opened, Sketch};
+use crate::sketches::{Head, Opened, Sketch};
 use lexer::Token;
 use operators::Operator;
 use pattern::intervals::Interval;
@@ -67,7 +67,7 @@ impl Progress {
             return self.next_part(draft, word);
         }
         match draft.innermost() {
-            Some(bracket) => Err(ReadFault::WrongParts(bracket.place)),
+            Some(bracket) => Err(ReadFault::WrongParts(bracket.head.place)),
             None => Err(ReadFault::Unexpected(word.place)),
         }
     }
@@ -124,27 +124,26 @@ impl Progress {
         match operator {
             Operator::Cnst => Ok(Some(Expect::AfterConstant(longer.part_read()))),
             Operator::Var => Ok(Some(Expect::AfterPart(longer.part_read()))),
-            Operator::One(_) => Ok(Some(Expect::Opening(1, place, longer))),
-            Operator::Two(_) => Ok(Some(Expect::Opening(2, place, longer))),
+            Operator::One(_) => Ok(Some(Expect::Opening(Head { arity: 1, place }, longer))),
+            Operator::Two(_) => Ok(Some(Expect::Opening(Head { arity: 2, place }, longer))),
         }
     }
 
-    // The bracket of an operator with `arity` parts at `place`.
+    // The bracket of that operator.
     // The `requires` is a clause and no ghost field: it holds only while the operator, whose parts are to come, stands last.
     pub(crate) fn opening(
         &self,
-        arity: usize,
-        place: usize,
+        head: Head,
         draft: Sketch,
         word: &Lexeme,
     ) -> Result<Option<Expect>, ReadFault>
         requires { items_taken (brackets_of draft.opened) < length draft.items }
-        ensures { outcome_of self.now result ≡ stepped self.now (opening arity place (draft_of draft)) word.now }
+        ensures { outcome_of self.now result ≡ stepped self.now (opening head.arity head.place (draft_of draft)) word.now }
     {
         if !word.is(Token::Open) {
             return Err(ReadFault::Unexpected(word.place));
         }
-        Ok(Some(Expect::FirstPart(draft.open(arity, place))))
+        Ok(Some(Expect::FirstPart(draft.open(head))))
     }
 
     pub(crate) fn after_part(
@@ -181,8 +180,8 @@ impl Progress {
         if !word.is(Token::Close) {
             return Err(ReadFault::Unexpected(word.place));
         }
-        if bracket.done != bracket.arity {
-            return Err(ReadFault::WrongParts(bracket.place));
+        if bracket.done != bracket.head.arity {
+            return Err(ReadFault::WrongParts(bracket.head.place));
         }
         Ok(Some(Expect::AfterPart(draft.close())))
     }

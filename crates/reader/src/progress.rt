@@ -1,5 +1,5 @@
 // What has been read, and what may follow.
-use crate::sketches::Sketch;
+use crate::sketches::{Head, Sketch};
 use description::descriptions::Description;
 use pattern::names::ShortName;
 
@@ -24,8 +24,7 @@ pub enum Expect {
     LeftColon(Sketch),
     FirstPart(Sketch),
     NextPart(Sketch),
-    // Holds the operator's number of parts and its place.
-    Opening(usize, usize, Sketch),
+    Opening(Head, Sketch),
     AfterPart(Sketch),
     AfterConstant(Sketch),
     LowEnd(Sketch),

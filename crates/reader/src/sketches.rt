@@ -10,11 +10,17 @@ use rows::{Entry, Row};
 
 mod calls;
 
-// An open bracket: how many parts its operator has, where the operator stands, how many parts are read.
+// An operator with parts: how many it has, and where the operator stands.
 #[derive(Clone, Copy)]
-pub struct Opened {
+pub struct Head {
     pub arity: usize,
     pub place: usize,
+}
+
+// An open bracket: its operator, and how many parts are read.
+#[derive(Clone, Copy)]
+pub struct Opened {
+    pub head: Head,
     pub done: usize,
 }
 
@@ -23,8 +29,7 @@ impl Entry for Opened {
 
     fn blank() -> Opened {
         Opened {
-            arity: 0,
-            place: 0,
+            head: Head { arity: 0, place: 0 },
             done: 0,
         }
     }

@@ -30,7 +30,7 @@ impl Progress {
             Expect::LeftColon(draft) => self.left_colon(draft, word),
             Expect::FirstPart(draft) => self.first_part(draft, word),
             Expect::NextPart(draft) => self.next_part(draft, word),
-            Expect::Opening(arity, place, draft) => self.opening(arity, place, draft, word),
+            Expect::Opening(head, draft) => self.opening(head, draft, word),
             Expect::AfterPart(draft) => self.after_part(draft, word),
             Expect::AfterConstant(draft) => self.after_constant(draft, word),
             Expect::LowEnd(draft) => self.low_end(draft, word),

@@ -5,7 +5,7 @@ ghost use Rattle.reader.specs.Reading.{within_limits, gained, part_read, with_br
 ghost use Rattle.reader.specs.Sketches.{bracket_of, brackets_of, items_taken};
 ghost use Rattle.reader.specs.States.{empty_draft, draft_of, opened_in, EndsInConstant};
 
-use super::{Opened, Sketch};
+use super::{Head, Opened, Sketch};
 use pattern::intervals::Interval;
 use pattern::items::Item;
 use pattern::patterns::{ITEM_LIMIT, LEAF_LIMIT, OPERAND_LIMIT};
@@ -61,17 +61,13 @@ impl Sketch {
         self
     }
 
-    // With one bracket more, of an operator with `arity` parts at `place`.
+    // With one bracket more, of that operator.
     // The `requires` is a clause and no ghost field, as that of `part_read`.
-    pub(crate) fn open(mut self, arity: usize, place: usize) -> Sketch
+    pub(crate) fn open(mut self, head: Head) -> Sketch
         requires { items_taken (brackets_of self.opened) < length self.items }
-        ensures { draft_of result ≡ opened_in (draft_of self) arity place }
+        ensures { draft_of result ≡ opened_in (draft_of self) head.arity head.place }
     {
-        let _ = self.opened.push(Opened {
-            arity,
-            place,
-            done: 0,
-        });
+        let _ = self.opened.push(Opened { head, done: 0 });
         self
     }
 
