@@ -85,10 +85,8 @@ impl Progress {
         if !word.is(Token::Capitals) {
             return Err(ReadFault::Unexpected(word.place));
         }
-        match operator_called(word.text) {
-            Some(operator) => self.operator(draft, operator, word.place),
-            None => Err(ReadFault::Unknown(word.place)),
-        }
+        let operator = operator_called(word.text).ok_or(ReadFault::Unknown(word.place))?;
+        self.operator(draft, operator, word.place)
     }
 
     // An operand whose name stands at `place`.
@@ -103,10 +101,10 @@ impl Progress {
         let Some(number) = self.number_of(name) else {
             return Err(ReadFault::Unknown(place));
         };
-        match draft.gain(Item::Operand(number)) {
-            Some(longer) => Ok(Some(Expect::AfterPart(longer.part_read()))),
-            None => Err(ReadFault::TooMany(self.line_start)),
-        }
+        let longer = draft
+            .gain(Item::Operand(number))
+            .ok_or(ReadFault::TooMany(self.line_start))?;
+        Ok(Some(Expect::AfterPart(longer.part_read())))
     }
 
     // A leaf, or an operator at `place` whose bracket must follow.
