@@ -18,19 +18,27 @@ struct Simulator<P: Processor> {
     ghost sized: { length setting ≡ 64 },
 }
 
+// The first word of an instruction or a store, the index where it stands, and the words after it.
+#[derive(Clone, Copy)]
+struct Fetched<'a> {
+    place: usize,
+    first: u32,
+    after: &'a [u32],
+}
+
 impl<P: Processor> Simulator<P> {
     ghost use Rattle.processor.specs.Simulators.{running_of};
 
-    // Carries out the store whose first word stands at `place`; the words after it.
-    fn store_step<'a>(
-        &mut self,
-        place: usize,
-        first: u32,
-        after: &'a [u32],
-    ) -> Result<&'a [u32], SimulatorFault>
-        requires { first / 256 ≡ 63 }
-        ensures { MatchResult result (λ rest. GoesOn P.Processor.design place (first ∷ after.now) (running_of self.old) rest.now (running_of self.new)) (λ e. Stops P.Processor.design place (first ∷ after.now) (running_of self.old) (simulator_number e) (simulator_place e)) }
+    // Carries out the store that was fetched; the words after it.
+    fn store_step<'a>(&mut self, fetched: Fetched<'a>) -> Result<&'a [u32], SimulatorFault>
+        requires { fetched.first / 256 ≡ 63 }
+        ensures { MatchResult result (λ rest. GoesOn P.Processor.design fetched.entry.place (fetched.entry.first ∷ fetched.entry.after.now) (running_of self.old) rest.now (running_of self.new)) (λ e. Stops P.Processor.design fetched.entry.place (fetched.entry.first ∷ fetched.entry.after.now) (running_of self.old) (simulator_number e) (simulator_place e)) }
     {
+        let Fetched {
+            place,
+            first,
+            after,
+        } = fetched;
         if self.processor.misplaced(first, 1, 0) {
             return Err(SimulatorFault::Misplaced(place));
         }
@@ -47,17 +55,20 @@ impl<P: Processor> Simulator<P> {
         Ok(rest)
     }
 
-    // Carries out the instruction whose first word stands at `place`; the words after it.
+    // Carries out the instruction that was fetched; the words after it.
     fn operation_step<'a>(
         &mut self,
-        place: usize,
         instruction: &Instruction,
-        first: u32,
-        after: &'a [u32],
+        fetched: Fetched<'a>,
     ) -> Result<&'a [u32], SimulatorFault>
-        requires { (o : Operation) × (entry_of P.Processor.design (first / 256) ≡ Some (operation_entry o)) × Denotes instruction.now o }
-        ensures { MatchResult result (λ rest. GoesOn P.Processor.design place (first ∷ after.now) (running_of self.old) rest.now (running_of self.new)) (λ e. Stops P.Processor.design place (first ∷ after.now) (running_of self.old) (simulator_number e) (simulator_place e)) }
+        requires { (o : Operation) × (entry_of P.Processor.design (fetched.first / 256) ≡ Some (operation_entry o)) × Denotes instruction.now o }
+        ensures { MatchResult result (λ rest. GoesOn P.Processor.design fetched.entry.place (fetched.entry.first ∷ fetched.entry.after.now) (running_of self.old) rest.now (running_of self.new)) (λ e. Stops P.Processor.design fetched.entry.place (fetched.entry.first ∷ fetched.entry.after.now) (running_of self.old) (simulator_number e) (simulator_place e)) }
     {
+        let Fetched {
+            place,
+            first,
+            after,
+        } = fetched;
         if self
             .processor
             .misplaced(first, instruction.meaning.operands, 1)
@@ -83,23 +94,18 @@ impl<P: Processor> Simulator<P> {
         Ok(rest)
     }
 
-    // Carries out the instruction or store whose first word stands at `place`; the words after it.
-    fn step<'a>(
-        &mut self,
-        place: usize,
-        first: u32,
-        after: &'a [u32],
-    ) -> Result<&'a [u32], SimulatorFault>
-        ensures { MatchResult result (λ rest. GoesOn P.Processor.design place (first ∷ after.now) (running_of self.old) rest.now (running_of self.new)) (λ e. Stops P.Processor.design place (first ∷ after.now) (running_of self.old) (simulator_number e) (simulator_place e)) }
+    // Carries out the instruction or store that was fetched; the words after it.
+    fn step<'a>(&mut self, fetched: Fetched<'a>) -> Result<&'a [u32], SimulatorFault>
+        ensures { MatchResult result (λ rest. GoesOn P.Processor.design fetched.entry.place (fetched.entry.first ∷ fetched.entry.after.now) (running_of self.old) rest.now (running_of self.new)) (λ e. Stops P.Processor.design fetched.entry.place (fetched.entry.first ∷ fetched.entry.after.now) (running_of self.old) (simulator_number e) (simulator_place e)) }
     {
-        let opcode = first / 256;
+        let opcode = fetched.first / 256;
         if opcode == STORE {
-            return self.store_step(place, first, after);
+            return self.store_step(fetched);
         }
         let Some(instruction) = P::operation(opcode) else {
-            return Err(SimulatorFault::UnknownOpcode(place));
+            return Err(SimulatorFault::UnknownOpcode(fetched.place));
         };
-        self.operation_step(place, &instruction, first, after)
+        self.operation_step(&instruction, fetched)
     }
 }
 
@@ -118,8 +124,12 @@ pub fn simulate<P: Processor>(words: &[u32], variables: &mut [u32]) -> Result<()
     };
     let mut rest = words;
     while let [first, after @ ..] = rest {
-        let place = words.len() - rest.len();
-        rest = simulator.step(place, *first, after)?;
+        let fetched = Fetched {
+            place: words.len() - rest.len(),
+            first: *first,
+            after,
+        };
+        rest = simulator.step(fetched)?;
     }
     variables.copy_from_slice(&simulator.setting);
     Ok(())
