@@ -1,5 +1,5 @@
 -- One instruction of a simulation: where it stops, and how it goes on.
-use Rattle.std.proofs.Common.{◌≡◌, ℕ, ◌+◌, ◌-◌, ◌/◌, ◌<◌, Bool, true, false, cond, List, [], ◌∷◌, length, get_or, Some, Result, Ok, Err, MatchResult, sym, refl, ap, ◌∙◌, arith}
+use Rattle.std.proofs.Common.{◌≡◌, ℕ, ◌+◌, ◌-◌, ◌/◌, ◌<◌, Bool, true, false, cond, List, [], ◌∷◌, length, get_or, Some, Result, Ok, Err, MatchResult, is_ok, true≢false, subst, IfOk, sym, refl, ap, ◌∙◌, arith}
 use Rattle.std.proofs.lemmas.Bool.{cond-true, cond-false, lt-ltb, le-ltb}
 use Rattle.pattern.specs.Shapes.{Leaf}
 use Rattle.board.specs.Payloads.{admits_all}
@@ -81,3 +81,8 @@ carried {V} {E} (Err e) P Q R h f = absurd (f h.0)
 -- a processor is asked for as many operands as the operation has
 pub asked_at : (d : Design) (i : Instruction) (o : Operation) → Denotes i o → (f : ℕ) (own : List ℕ) {r b : Bool} → r ≡ d.misplaced_at f i.meaning.operands 1 own → r ≡ b → d.misplaced_at f (arity o) 1 own ≡ b
 asked_at d i o is f own e h = ap (λ n. d.misplaced_at f n 1 own) (sym (arity_is i o is)) ∙ sym e ∙ h
+
+-- what was taken, where a `map_err` of it went on
+pub taken : {V E F : Type 0} (r : Result V E) (r' : Result V F) (v : V) (P : V → Type 0) (Q : E → Type 0) (R : E → Type 0) → MatchResult r P Q → MatchResult r (λ x. r' ≡ Ok x) R → is_ok r' ≡ is_ok r → r' ≡ Ok v → P v
+taken (Ok x) r' v P Q R h same both on = subst (λ s. IfOk s P) (sym same ∙ on) h
+taken (Err e) r' v P Q R h same both on = absurd (true≢false (sym (ap is_ok on) ∙ both))

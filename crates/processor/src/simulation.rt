@@ -48,9 +48,10 @@ impl<P: Processor> Simulator<P> {
         if *variable > LAST_VARIABLE {
             return Err(SimulatorFault::PayloadBarred(place));
         }
-        let Ok(value) = self.processor.take(first) else {
-            return Err(SimulatorFault::Misplaced(place));
-        };
+        let value = self
+            .processor
+            .take(first)
+            .map_err(|_| SimulatorFault::Misplaced(place))?;
         self.setting[*variable as usize] = value;
         Ok(rest)
     }
