@@ -3,7 +3,7 @@ ghost use Rattle.std.specs.Prelude.{reverse};
 ghost use Rattle.tree.specs.Stacks.{held};
 ghost use Rattle.processor.specs.Boards.{Belongs};
 
-use crate::Processor;
+use crate::{Processor, WAITING_LIMIT};
 use rows::Row;
 use std::marker::PhantomData;
 use tree::stack::Stack;
@@ -14,7 +14,7 @@ mod calls;
 #[derive(Drop)]
 pub struct CodedBoard<'a, P: Processor> {
     code: Stack<'a, u32>,
-    waiting: Row<u8, 64>,
+    waiting: Row<u8, WAITING_LIMIT>,
     processor: PhantomData<P>,
     ghost belongs: { Belongs P.Processor.design (reverse (held code)) waiting },
 }

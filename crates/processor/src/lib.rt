@@ -23,6 +23,9 @@ pub mod simulation;
 // The opcode of a store, which no instruction has.
 const STORE: u32 = 63;
 
+// A board's depth limit is at most this, so no more operands wait.
+const WAITING_LIMIT: usize = 64;
+
 // The instructions of a board and what carries them out. A value holds the processor's own words, such as a stack or registers.
 pub trait Processor: Copy {
     ghost design: { Design };

@@ -1,9 +1,13 @@
 // What a board that keeps its code as words appends to it.
 ghost use Rattle.std.specs.Prelude.{◌≤◌, length};
 
+use crate::WAITING_LIMIT;
 use rows::Row;
 
 mod judging;
+
+// An instruction has at most so many words: its first and one payload.
+const WORD_LIMIT: usize = 2;
 
 // What a call finds: the letters of the PLACES that wait, the deepest first, and how many words are free.
 #[derive(Clone, Copy)]
@@ -24,6 +28,6 @@ pub(crate) struct Request {
 // The words of one instruction, and the letters of the PLACES that wait after it.
 #[derive(Drop)]
 pub(crate) struct Emission {
-    pub(crate) words: Row<u32, 2>,
-    pub(crate) waiting: Row<u8, 64>,
+    pub(crate) words: Row<u32, WORD_LIMIT>,
+    pub(crate) waiting: Row<u8, WAITING_LIMIT>,
 }

@@ -20,8 +20,8 @@ const LAST_REGISTER: usize = 7;
 // The operand at depth i waits in `data` or `address` at index i, by its PLACE.
 #[derive(Clone, Copy)]
 pub struct RegisterProcessor {
-    data: [u32; 8],
-    address: [u32; 8],
+    data: [u32; DEPTH_LIMIT],
+    address: [u32; DEPTH_LIMIT],
     ghost data_sized: { length «data» ≡ 8 },
     ghost address_sized: { length address ≡ 8 },
 }
@@ -127,8 +127,8 @@ impl Processor for RegisterProcessor {
 
     fn start() -> RegisterProcessor {
         RegisterProcessor {
-            data: [0; 8],
-            address: [0; 8],
+            data: [0; DEPTH_LIMIT],
+            address: [0; DEPTH_LIMIT],
         }
     }
 
