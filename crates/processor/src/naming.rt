@@ -9,7 +9,7 @@ use pattern::names::ShortName;
 // Opcodes are below this.
 const OPCODE_END: u32 = 256;
 
-// The instruction with that mnemonic. A chain of `find_map` over the opcodes leaves a goal that no short answer closes.
+// The instruction with that mnemonic. A `find_map` over the opcodes and a `filter_map` with `find` were tried, and their proofs did not close.
 pub fn named<P: Processor>(mnemonic: &ShortName) -> Option<Instruction>
     ensures { InstructionNamed P.Processor.design.fixed_part (letters_of mnemonic.now) result }
 {
