@@ -1,4 +1,6 @@
 // What a match of a pattern at a node says.
+ghost use Rattle.std.specs.Prelude.{◌≤◌, length};
+
 use pattern::patterns::{LEAF_LIMIT, OPERAND_LIMIT};
 use rows::{Entry, Row};
 
@@ -25,4 +27,6 @@ impl Entry for OperandAt {
 pub struct Match {
     pub operands: Row<OperandAt, OPERAND_LIMIT>,
     pub payloads: Row<u32, LEAF_LIMIT>,
+    ghost few: { length operands ≤ 2 },
+    ghost short: { length payloads ≤ 2 },
 }

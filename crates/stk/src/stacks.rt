@@ -1,4 +1,6 @@
 // The stack of a simulation.
+ghost use Rattle.std.specs.Prelude.{◌≤◌, length};
+
 use rows::Row;
 
 mod steps;
@@ -10,4 +12,5 @@ const DEPTH_LIMIT: usize = 64;
 #[derive(Clone, Copy)]
 pub struct ValueStack {
     values: Row<u32, DEPTH_LIMIT>,
+    ghost within: { length values ≤ 64 },
 }
