@@ -1,7 +1,7 @@
 // Rows: short lists that are kept in an array and are plain values.
 #![tactic(auto)]
 
-ghost use Rattle.std.specs.Prelude.{◌≡◌, ◌<◌, ◌≤◌, ◌↔◌, IsTrue, [], ◌∷◌, ◌++◌, length, MatchOption, MatchResult};
+ghost use Rattle.std.specs.Prelude.{◌≡◌, ◌<◌, ◌≤◌, ◌↔◌, IsTrue, [], ◌∷◌, ◌++◌, length, take, MatchOption, MatchResult};
 ghost use Rattle.std.specs.Cmp.Lexicographic.{pointwise};
 ghost use Rattle.std.specs.Cmp.Rules.{comparing};
 ghost use Rattle.std.proofs.Common.{rules};
@@ -99,6 +99,15 @@ impl<T: Entry, const N: usize> Row<T, N> {
         let last = self.entries[self.len];
         self.entries[self.len] = T::blank();
         Some(last)
+    }
+
+    // Keeps so many entries at the front, or all where there are no more.
+    pub fn truncate(&mut self, len: usize)
+        ensures { self.new ≡ take len self.old }
+    {
+        while self.len() > len {
+            let _ = self.pop();
+        }
     }
 }
 
