@@ -1,5 +1,5 @@
 -- The operation of an opcode is the one that is listed with it.
-use Rattle.std.proofs.Common.{◌≡◌, ℕ, suc, Bool, true, false, not, ◌&&◌, eqb, List, [], ◌∷◌, map, Option, Some, None, IsSomeAnd, Result, Ok, Err, MatchResult, sym, refl, ap, ◌∙◌, subst, arith}
+use Rattle.std.proofs.Common.{◌≡◌, ℕ, suc, Bool, true, false, not, ◌&&◌, eqb, List, [], ◌∷◌, map, Option, Some, None, IsSomeAnd, IsOkAnd, Result, Ok, Err, MatchOption, MatchResult, sym, refl, ap, ◌∙◌, subst, arith}
 use Rattle.std.specs.List.{ContainsAt as Has, AllByRecursion}
 use Rattle.std.specs.Result.{result_ok}
 use Rattle.std.specs.Str.{bytes_eq}
@@ -115,10 +115,14 @@ texts_differ x y e h = both_ways _ e ((bytes_eq-Decides x y).1 h)
 pub once_by_text : (os : List Operation) → all_alone bytes_eq texts_differ (λ o. o.letters) os ≡ true → NoTwoShare (λ o. o.letters) os
 once_by_text = no_two_share bytes_eq texts_differ (λ o. o.letters)
 
+-- what holds of a value holds of the one that is there
+pub some_of : {X : Type 0} (A : Type 0) (P : X → Type 0) (r : Option X) (x : X) → MatchOption r A P → r ≡ Some x → P x
+some_of A P r x h e = subst (λ o. MatchOption o A P) e h
+
 -- where the items make a pattern, it is made
-pub pattern_made : {E : Type 0} (o : Option Pattern) (r : Result Pattern E) (xs ys : List Item) → o ≡ result_ok r → MatchResult r (λ p. items_of p ≡ xs) (λ _. pattern_items xs ≡ false) → pattern_items xs ≡ true → xs ≡ ys → IsSomeAnd o (λ p. items_of p ≡ ys)
-pattern_made o (Err e) xs ys ok h whole is = absurd (both_ways (pattern_items xs) h whole)
-pattern_made o (Ok p) xs ys ok h whole is = subst (λ q. IsSomeAnd q (λ p. items_of p ≡ ys)) (sym ok) (h ∙ is)
+pub pattern_made : {E : Type 0} (r : Result Pattern E) (xs ys : List Item) → MatchResult r (λ p. items_of p ≡ xs) (λ _. pattern_items xs ≡ false) → pattern_items xs ≡ true → xs ≡ ys → IsOkAnd r (λ p. items_of p ≡ ys)
+pattern_made (Err e) xs ys h whole is = absurd (both_ways (pattern_items xs) h whole)
+pattern_made (Ok p) xs ys h whole is = h ∙ is
 
 -- an instruction with all its parts is that of its opcode
 pub numbered : (m : Machine) (n : ℕ) (o : Operation) → operation_of m n ≡ Some o → (r : Option Instruction) → IsSomeAnd r (λ i. Denotes i o) → InstructionNumbered m n r

@@ -17,7 +17,7 @@ pub mod faults;
 pub mod laws;
 pub mod mnemonics;
 pub mod naming;
-mod requests;
+pub mod requests;
 pub mod simulation;
 
 // The opcode of a store, which no instruction has.

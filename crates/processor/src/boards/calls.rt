@@ -7,10 +7,10 @@ ghost use Rattle.processor.specs.Boards.{Belongs, state_of};
 ghost use Rattle.processor.specs.Codes.{encoded};
 
 use super::CodedBoard;
-use crate::Processor;
 use crate::naming::named;
-use crate::requests::{Emission, Request, Room};
+use crate::requests::{Request, Room};
 use crate::simulation::simulate;
+use crate::{Processor, WAITING_LIMIT};
 use board::Board;
 use board::faults::{BoardFault, RunFault};
 use board::instructions::Instruction;
@@ -60,16 +60,16 @@ impl<P: Processor> CodedBoard<'_, P> {
         }
     }
 
-    // Writes the words after the code; operands then wait where the emission says.
-    fn append(&mut self, emission: &Emission)
-        requires room { length emission.now.words ≤ length (beyond_code self.old) }
-        requires belongs { Belongs P.Processor.design (code_words self.old ++ emission.now.words) emission.now.waiting }
-        ensures { Grew self.old emission.now.words emission.now.waiting self.new }
+    // Writes the words after the code; operands then wait in these PLACES.
+    fn append(&mut self, words: &[u32], waiting: Row<u8, WAITING_LIMIT>)
+        requires room { length words.now ≤ length (beyond_code self.old) }
+        requires belongs { Belongs P.Processor.design (code_words self.old ++ words.now) waiting }
+        ensures { Grew self.old words.now waiting self.new }
     {
-        let Ok(()) = self.code.push_all(emission.words.as_slice()) else {
+        let Ok(()) = self.code.push_all(words) else {
             unreachable()
         };
-        self.waiting = emission.waiting;
+        self.waiting = waiting;
     }
 }
 
@@ -119,7 +119,12 @@ impl<P: Processor> Board for CodedBoard<'_, P> {
             second,
         };
         let emission = self.room().judge_issue::<P>(request)?;
-        self.append(&emission);
+        let mut waiting = self.waiting;
+        waiting.truncate(emission.below);
+        let Ok(()) = waiting.push(emission.result) else {
+            unreachable()
+        };
+        self.append(emission.words.as_slice(), waiting);
         Ok(())
     }
 
@@ -127,8 +132,10 @@ impl<P: Processor> Board for CodedBoard<'_, P> {
         ensures outcome { MatchResult result (λ _. Stored P.Processor.design.fixed_part (board_state self.old) variable (board_state self.new)) (λ e. (board_state self.new ≡ board_state self.old) × StoreDenied P.Processor.design.fixed_part (board_state self.old) variable (board_number e) (board_place e)) }
         ensures memory { MatchResult result (λ _. WroteStore self.old variable self.new) (λ _. self.new ≡ self.old) }
     {
-        let emission = self.room().judge_store::<P>(variable)?;
-        self.append(&emission);
+        let words = self.room().judge_store::<P>(variable)?;
+        let mut waiting = self.waiting;
+        let _ = waiting.pop();
+        self.append(&words, waiting);
         Ok(())
     }
 

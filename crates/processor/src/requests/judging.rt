@@ -4,7 +4,7 @@ ghost use Rattle.board.specs.Faults.{board_number, board_place};
 ghost use Rattle.processor.specs.Designs.{first_word};
 ghost use Rattle.processor.specs.Requests.{AllowedBy, Emits, EmitsStore, IssueRefused, StoreRefused};
 
-use super::{Emission, Request, Room};
+use super::{Emission, Request, Room, WORD_LIMIT};
 use crate::{Processor, STORE};
 use board::faults::BoardFault;
 use board::instructions::Instruction;
@@ -59,8 +59,8 @@ impl Room<'_> {
         Ok(instruction)
     }
 
-    // What an issue appends, or the first condition that refuses it.
-    pub(crate) fn judge_issue<P: Processor>(&self, request: Request) -> Result<Emission, BoardFault>
+    // The words of an issue and where its result is to wait, or the first condition that refuses it.
+    pub fn judge_issue<P: Processor>(&self, request: Request) -> Result<Emission, BoardFault>
         ensures { MatchResult result (λ e. Emits P.Processor.design self.now.waiting.now self.now.free request.opcode request.first request.second e) (λ f. IssueRefused P.Processor.design self.now.waiting.now self.now.free request.opcode request.first request.second (board_number f) (board_place f)) }
     {
         let instruction = self.allowed::<P>(request)?;
@@ -71,18 +71,16 @@ impl Room<'_> {
         let Ok(words) = Row::try_from(&all[..1 + meaning.leaves]) else {
             unreachable()
         };
-        let Ok(mut waiting) = Row::try_from(&self.waiting[..below]) else {
-            unreachable()
-        };
-        let Ok(()) = waiting.push(instruction.result.letter) else {
-            unreachable()
-        };
-        Ok(Emission { words, waiting })
+        Ok(Emission {
+            words,
+            below,
+            result: instruction.result.letter,
+        })
     }
 
-    // What a store appends, or the first condition that refuses it.
-    pub(crate) fn judge_store<P: Processor>(&self, variable: u32) -> Result<Emission, BoardFault>
-        ensures { MatchResult result (λ e. EmitsStore P.Processor.design self.now.waiting.now self.now.free variable e) (λ f. StoreRefused P.Processor.design self.now.waiting.now self.now.free variable (board_number f) (board_place f)) }
+    // The words of a store, or the first condition that refuses it.
+    pub fn judge_store<P: Processor>(&self, variable: u32) -> Result<[u32; WORD_LIMIT], BoardFault>
+        ensures { MatchResult result (λ ws. EmitsStore P.Processor.design self.now.waiting.now self.now.free variable ws) (λ f. StoreRefused P.Processor.design self.now.waiting.now self.now.free variable (board_number f) (board_place f)) }
     {
         let [below @ .., last] = self.waiting else {
             return Err(BoardFault::OperandLacking(0));
@@ -97,13 +95,6 @@ impl Room<'_> {
         if self.free < 2 {
             return Err(BoardFault::NoRoom(depth));
         }
-        let first = first_word::<P>(STORE, depth - 1, 1);
-        let Ok(words) = Row::try_from(&[first, variable][..]) else {
-            unreachable()
-        };
-        let Ok(waiting) = Row::try_from(below) else {
-            unreachable()
-        };
-        Ok(Emission { words, waiting })
+        Ok([first_word::<P>(STORE, below.len(), 1), variable])
     }
 }

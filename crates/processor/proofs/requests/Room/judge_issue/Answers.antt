@@ -1,4 +1,4 @@
-use Rattle.std.proofs.Common.{◌≡◌, ◌+◌, ◌-◌, ◌≤◌, [], ◌∷◌, ◌++◌, length, take, ap, ◌∙◌, arith, length-take}
+use Rattle.std.proofs.Common.{◌≡◌, ◌+◌, ◌-◌, ◌≤◌, [], ◌∷◌, length, take, ap, ◌∙◌, arith, length-take}
 use Rattle.board.specs.Machines.{operand_letters, arity, leaf_total}
 use Rattle.processor.specs.Designs.{first_word}
 use Rattle.processor.proofs.Judging.{arity_is, leaf_total_is, enough_wait, front_words}
@@ -21,14 +21,6 @@ slice_bounds-try_from-end g c =
     let n = 1 + c.in_ok-instruction.instruction.meaning.leaves in
     omega (arith, length-take n (c.first_word-first.result ∷ c.args.request.first ∷ []), leaf_total_is c.in_ok-instruction.instruction found.by found.is, g.met.P.Processor.sound.one_payload c.args.request.opcode found.by found.allowed.is)
 
-pub unreachable-requires-in_default-push : goal.unreachable-requires-in_default-push
-unreachable-requires-in_default-push g c =
-    let found = c.in_ok-instruction.ensures in
-    let n = c.in_ok-instruction.instruction.meaning.operands in
-    let w = c.args.self.now.waiting.now in
-    let full = c.in_default-push.ensures in
-    omega (arith, full.1, ap length c.in-Ok-try_from.ensures.0, length-take (length w - n) w, arity_is c.in_ok-instruction.instruction found.by found.is, found.allowed.shallow, g.met.P.Processor.sound.lawful_machine.shallow)
-
 pub returns : goal.returns
 returns g c =
     let found = c.in_ok-instruction.ensures in
@@ -45,5 +37,6 @@ returns g c =
       by = o;
       allowed = found.allowed;
       words_are = c.in-Ok.ensures.0 ∙ (λ j. take (1 + leaves j) (first j ∷ c.args.request.first ∷ [])) ∙ front_words (leaf_total o) (first_word d op (length w - arity o) (arity o)) c.args.request.first c.args.request.second few;
-      waits = c.in-Ok-push.ensures ∙ (λ j. c.in-Ok-try_from.ensures.0 j ++ found.is.result_is j ∷ []) ∙ ap (λ n. take (length w - n) w ++ o.result_letter ∷ []) operands;
+      below_is = ap (λ n. length w - n) operands;
+      result_is = found.is.result_is;
     }
