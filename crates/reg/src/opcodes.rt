@@ -1,5 +1,5 @@
 // The instructions of REG.
-ghost use Rattle.std.specs.Prelude.{◌≡◌, Some, None, IsSomeAnd, MatchResult};
+ghost use Rattle.std.specs.Prelude.{◌≡◌, Some, None, IsOkAnd, IsSomeAnd, MatchResult};
 ghost use Rattle.pattern.specs.Patterns.{items_of};
 ghost use Rattle.pattern.specs.Shapes.{reading};
 ghost use Rattle.board.specs.Instructions.{Denotes};
@@ -10,7 +10,7 @@ use operators::{Binary, Unary};
 use pattern::intervals::Interval;
 use pattern::items::Item;
 use pattern::names::ShortName;
-use pattern::patterns::Pattern;
+use pattern::patterns::{MalformedPattern, Pattern};
 use pattern::places::Place;
 use processor::faults::UnknownNumber;
 use processor::mnemonics;
@@ -130,36 +130,41 @@ impl Opcode {
         }
     }
 
-    fn meaning(self) -> Option<Pattern>
-        ensures { IsSomeAnd result (λ p. items_of p ≡ reading (meaning_of self)) }
+    // The pattern of its meaning; it is one.
+    fn meaning(self) -> Result<Pattern, MalformedPattern>
+        ensures { IsOkAnd result (λ p. items_of p ≡ reading (meaning_of self)) }
     {
         let data = Item::Operand(DATA);
         let address = Item::Operand(ADDRESS);
         let add = Item::Binary(Binary::Add);
         let shl = Item::Binary(Binary::Shl);
         match self {
-            Opcode::Ldi => Pattern::try_from([Item::Constant(Interval::new(0, u32::MAX)?)]).ok(),
-            Opcode::Ldq => Pattern::try_from([Item::Constant(Interval::new(0, 255)?)]).ok(),
-            Opcode::Ldv => Pattern::try_from([Item::Variable]).ok(),
-            Opcode::Pair(operator) => Pattern::try_from([Item::Binary(operator), data, data]).ok(),
-            Opcode::Single(operator) => Pattern::try_from([Item::Unary(operator), data]).ok(),
+            Opcode::Ldi => Pattern::try_from([Item::Constant(Interval::new(0, u32::MAX).ok_or(
+                MalformedPattern,
+            )?)]),
+            Opcode::Ldq => Pattern::try_from([Item::Constant(Interval::new(0, 255).ok_or(
+                MalformedPattern,
+            )?)]),
+            Opcode::Ldv => Pattern::try_from([Item::Variable]),
+            Opcode::Pair(operator) => Pattern::try_from([Item::Binary(operator), data, data]),
+            Opcode::Single(operator) => Pattern::try_from([Item::Unary(operator), data]),
             Opcode::Addi => {
-                let constant = Item::Constant(Interval::new(0, u32::MAX)?);
-                Pattern::try_from([add, data, constant]).ok()
+                let constant = Item::Constant(Interval::new(0, u32::MAX).ok_or(MalformedPattern)?);
+                Pattern::try_from([add, data, constant])
             }
             Opcode::Shli => {
-                let constant = Item::Constant(Interval::new(0, 31)?);
-                Pattern::try_from([shl, data, constant]).ok()
+                let constant = Item::Constant(Interval::new(0, 31).ok_or(MalformedPattern)?);
+                Pattern::try_from([shl, data, constant])
             }
-            Opcode::Mova => Pattern::try_from([data]).ok(),
-            Opcode::Movd => Pattern::try_from([address]).ok(),
+            Opcode::Mova => Pattern::try_from([data]),
+            Opcode::Movd => Pattern::try_from([address]),
             Opcode::Lea => {
-                let constant = Item::Constant(Interval::new(0, 3)?);
-                Pattern::try_from([add, address, shl, data, constant]).ok()
+                let constant = Item::Constant(Interval::new(0, 3).ok_or(MalformedPattern)?);
+                Pattern::try_from([add, address, shl, data, constant])
             }
             Opcode::Adda => {
-                let constant = Item::Constant(Interval::new(0, 255)?);
-                Pattern::try_from([add, address, constant]).ok()
+                let constant = Item::Constant(Interval::new(0, 255).ok_or(MalformedPattern)?);
+                Pattern::try_from([add, address, constant])
             }
         }
     }
@@ -172,7 +177,7 @@ impl Opcode {
             opcode: u32::from(self),
             mnemonic: ShortName::try_from(self.mnemonic()).ok()?,
             result: Place::try_from(self.result()).ok()?,
-            meaning: self.meaning()?,
+            meaning: self.meaning().ok()?,
         })
     }
 }

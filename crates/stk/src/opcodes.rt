@@ -1,5 +1,5 @@
 // The instructions of STK.
-ghost use Rattle.std.specs.Prelude.{◌≡◌, Some, None, IsSomeAnd, MatchResult};
+ghost use Rattle.std.specs.Prelude.{◌≡◌, Some, None, IsOkAnd, IsSomeAnd, MatchResult};
 ghost use Rattle.pattern.specs.Patterns.{items_of};
 ghost use Rattle.pattern.specs.Shapes.{reading};
 ghost use Rattle.board.specs.Instructions.{Denotes};
@@ -10,7 +10,7 @@ use operators::{Binary, Unary};
 use pattern::intervals::Interval;
 use pattern::items::Item;
 use pattern::names::ShortName;
-use pattern::patterns::Pattern;
+use pattern::patterns::{MalformedPattern, Pattern};
 use pattern::places::Place;
 use processor::faults::UnknownNumber;
 use processor::mnemonics;
@@ -100,38 +100,31 @@ impl Opcode {
         }
     }
 
-    fn meaning(self) -> Option<Pattern>
-        ensures { IsSomeAnd result (λ p. items_of p ≡ reading (meaning_of self)) }
+    // The pattern of its meaning; it is one.
+    fn meaning(self) -> Result<Pattern, MalformedPattern>
+        ensures { IsOkAnd result (λ p. items_of p ≡ reading (meaning_of self)) }
     {
         let operand = Item::Operand(S);
         match self {
-            Opcode::Push => Pattern::try_from([Item::Constant(Interval::new(0, u32::MAX)?)]).ok(),
-            Opcode::Load => Pattern::try_from([Item::Variable]).ok(),
-            Opcode::Pair(operator) => Pattern::try_from([
-                Item::Binary(operator),
-                operand,
-                operand,
-            ]).ok(),
-            Opcode::Single(operator) => Pattern::try_from([Item::Unary(operator), operand]).ok(),
+            Opcode::Push => Pattern::try_from([Item::Constant(Interval::new(0, u32::MAX).ok_or(
+                MalformedPattern,
+            )?)]),
+            Opcode::Load => Pattern::try_from([Item::Variable]),
+            Opcode::Pair(operator) => Pattern::try_from([Item::Binary(operator), operand, operand]),
+            Opcode::Single(operator) => Pattern::try_from([Item::Unary(operator), operand]),
             Opcode::Inc => Pattern::try_from([
                 Item::Binary(Binary::Add),
                 operand,
-                Item::Constant(Interval::new(1, 1)?),
-            ])
-            .ok(),
-            Opcode::Addv => Pattern::try_from([
-                Item::Binary(Binary::Add),
-                operand,
-                Item::Variable,
-            ]).ok(),
+                Item::Constant(Interval::new(1, 1).ok_or(MalformedPattern)?),
+            ]),
+            Opcode::Addv => Pattern::try_from([Item::Binary(Binary::Add), operand, Item::Variable]),
             Opcode::Madd => Pattern::try_from([
                 Item::Binary(Binary::Add),
                 operand,
                 Item::Binary(Binary::Mul),
                 operand,
-                Item::Constant(Interval::new(0, u32::MAX)?),
-            ])
-            .ok(),
+                Item::Constant(Interval::new(0, u32::MAX).ok_or(MalformedPattern)?),
+            ]),
         }
     }
 
@@ -143,7 +136,7 @@ impl Opcode {
             opcode: u32::from(self),
             mnemonic: ShortName::try_from(self.mnemonic()).ok()?,
             result: Place::try_from(S).ok()?,
-            meaning: self.meaning()?,
+            meaning: self.meaning().ok()?,
         })
     }
 }

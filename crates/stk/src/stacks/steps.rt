@@ -61,16 +61,13 @@ impl Processor for ValueStack {
         if self.misplaced(first, meaning.operands, 1) {
             return Err(Misplaced);
         }
-        let old = self.values;
-        let (below, operands) = old.as_slice().split_at(old.len() - meaning.operands);
+        let below = self.values.len() - meaning.operands;
+        let (_, operands) = self.values.as_slice().split_at(below);
         let value = meaning.value(operands, payloads, setting);
-        let Ok(mut values) = Row::try_from(below) else {
+        self.values.truncate(below);
+        let Ok(()) = self.values.push(value) else {
             unreachable()
         };
-        let Ok(()) = values.push(value) else {
-            unreachable()
-        };
-        self.values = values;
         Ok(())
     }
 

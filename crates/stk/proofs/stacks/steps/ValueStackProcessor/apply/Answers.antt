@@ -16,10 +16,10 @@ pub returns : goal.returns
 returns c o is =
     let own = stacked c.args.self.now in
     let count = arity_is c.args.instruction.now o is in
-    let below : c.split_at.result.0.now ≡ before_last (arity o) own =
-    c.split_at.ensures.front ∙ (λ j. take (c.len.ensures.value j - count j) (c.as_slice.ensures.value j)) in
+    let below : c.truncate.new.self ≡ before_last (arity o) own =
+    c.truncate.ensures ∙ (λ j. take (c.len.ensures.value j - count j) own) in
     let operands : c.split_at.result.1.now ≡ last_of (arity o) own =
     c.split_at.ensures.back ∙ (λ j. drop (c.len.ensures.value j - count j) (c.as_slice.ensures.value j)) in
     let value = c.value-value.ensures o.shape (sym is.meaning_is)
     ∙ ap (λ vs. shape_value o.shape vs c.args.payloads.now c.args.setting.now) operands in
-    c.in-Ok-push.ensures ∙ (λ j. (c.in-Ok.ensures.0 ∙ below) j ++ value j ∷ [])
+    c.in-Ok.ensures ∙ (λ j. below j ++ value j ∷ [])
