@@ -7,7 +7,7 @@ ghost use Rattle.tree.specs.Statements.{StatementFails, StatementDenied, Faulty,
 
 use super::CheckedStatement;
 use crate::faults::StatementFault;
-use crate::nodes::{LAST_VARIABLE, Node, Statement};
+use crate::nodes::{LAST_VARIABLE, NODE_LIMIT, Node, Statement};
 use operators::Operator;
 use rows::Row;
 
@@ -61,15 +61,19 @@ impl Statement<'_> {
     pub fn check(self) -> Result<CheckedStatement, StatementFault>
         ensures { MatchResult result (λ c. (c.target ≡ self.entry.target) × (nodes_of c ≡ self.entry.nodes.now)) (λ e. StatementDenied self.entry.target self.entry.nodes.now (statement_number e) (statement_place e)) }
     {
-        let Ok(nodes) = Row::try_from(self.nodes) else {
+        if self.nodes.len() > NODE_LIMIT {
             return Err(StatementFault::TooLong);
-        };
+        }
         if let Some(place) = malformed(self) {
             return Err(StatementFault::Malformed(place));
         }
         if let Some(place) = variable_over(self) {
             return Err(StatementFault::VariableOver(place));
         }
+        // Copied only once nothing refuses it.
+        let Ok(nodes) = Row::try_from(self.nodes) else {
+            unreachable()
+        };
         let target = self.target;
         Ok(CheckedStatement { target, nodes })
     }
