@@ -1,5 +1,5 @@
 // Lines and words of a paper.
-ghost use Rattle.std.specs.Prelude.{◌≡◌, ◌<◌, ◌≤◌, length, IfSome, OnSome};
+ghost use Rattle.std.specs.Prelude.{◌≡◌, ◌≢◌, ◌<◌, ◌≤◌, ◌∷◌, ◌++◌, length, slice_index, EachIndex, MatchOption, OnSome};
 ghost use Rattle.std.specs.Iterator.{at_most};
 
 use std::alloc::{AllocError, Global};
@@ -8,9 +8,9 @@ const LINE_END: u8 = b'\n';
 
 const SPACE: u8 = b' ';
 
-// What stands before the first `byte`, and what stands after it.
+// What stands before the first `byte`, and what stands after it; none where there is no such byte.
 pub(crate) fn split_once(text: &[u8], byte: u8) -> Option<(&[u8], &[u8])>
-    ensures { IfSome result (λ parts. length parts.1.now < length text.now) }
+    ensures { MatchOption result (EachIndex text.now (λ k. slice_index text.now k ≢ byte)) (λ parts. (text.now ≡ parts.0.now ++ byte ∷ parts.1.now) × EachIndex parts.0.now (λ k. slice_index parts.0.now k ≢ byte)) }
 {
     let at = text.iter().position(|b| *b == byte)?;
     Some((&text[..at], &text[at + 1..]))
@@ -51,7 +51,8 @@ impl<'a> Lines<'a> {
 impl<'a> Iterator for Lines<'a> {
     type Item = &'a [u8];
 
-    ghost next_gives = { λ s _ t. length t.rest.now ≤ length s.rest.now };
+    // None only where no line is left.
+    ghost next_gives = { λ s line t. MatchOption line (length t.rest.now ≡ 0) (λ _. length t.rest.now < length s.rest.now) };
 
     ghost remaining = { λ s. at_most (length s.rest.now) };
 
