@@ -1,5 +1,5 @@
 -- A board after an issue and after a store.
-use Rattle.std.proofs.Common.{◌≡◌, ℕ, ◌+◌, ◌-◌, ◌<◌, ◌≤◌, List, [], ◌∷◌, ◌++◌, length, take, Some, None, Option, MatchOption, sym, ap, ◌∙◌, subst, arith, length-append, length-take, length-drop}
+use Rattle.std.proofs.Common.{◌≡◌, ℕ, ◌+◌, ◌-◌, ◌≤◌, List, [], ◌∷◌, ◌++◌, length, take, Some, None, Option, MatchOption, sym, ap, ◌∙◌, subst, arith, length-append, length-take, length-drop}
 use Rattle.std.proofs.Math.Seq.{take-append_seam}
 use Rattle.board.specs.Machines.{arity, leaf_total}
 use Rattle.board.specs.Acts.{before_last, Issued, Stored}
@@ -46,11 +46,6 @@ module _ {P : Type 0} {by : Ghosts P} (sound : Sound by.design) (b : CodedBoard 
     pub issue_fits : length e.words ≤ length (beyond_code b)
     issue_fits = omega (arith, words_counted, em.allowed.room)
 
-    -- below the result there is a place for it
-    pub result_fits : length (take e.below (waiting_places b)) < 64
-    result_fits =
-        omega (arith, em.below_is, em.allowed.shallow, sound.lawful_machine.shallow, length-take e.below (waiting_places b))
-
     module _ (us w : List ℕ) (same : us ≡ e.words) (waits : w ≡ take e.below (waiting_places b) ++ e.result ∷ []) where
       waits_same : before_last (arity em.by) (waiting_places b) ++ em.by.result_letter ∷ [] ≡ w
       waits_same = sym (waits ∙ (λ i. take (em.below_is i) (waiting_places b) ++ em.result_is i ∷ []))
@@ -65,7 +60,7 @@ module _ {P : Type 0} {by : Ghosts P} (sound : Sound by.design) (b : CodedBoard 
         pub issue_done : Issued by.design.fixed_part (board_state b) op a c (board_state after)
         issue_done =
             let counted : length us ≡ 1 + leaf_total em.by = ap length same ∙ words_counted in
-            let paid = paid_for us w after g (omega (arith, counted, em.allowed.room)) in
+            let paid = paid_for us w after g (omega (arith, ap length same, issue_fits)) in
             subst (λ x. Issued by.design.fixed_part (board_state b) op a c (state_of by.design (code_words after) (length (beyond_code after)) x)) (waits_same ∙ sym g.waits)
             (subst (λ xs. Issued by.design.fixed_part (board_state b) op a c (state_of by.design xs (length (beyond_code after)) (before_last (arity em.by) (waiting_places b) ++ em.by.result_letter ∷ [])))
             (sym (g.wrote.words_gained ∙ ap (λ xs. code_words b ++ xs) (same ∙ em.words_are)))

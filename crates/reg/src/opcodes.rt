@@ -130,7 +130,7 @@ impl Opcode {
         }
     }
 
-    // The pattern of its meaning; it is one.
+    // The pattern of its meaning; it is one. No `Option`: made in each line, that would move the pattern once more.
     fn meaning(self) -> Result<Pattern, MalformedPattern>
         ensures { IsOkAnd result (λ p. items_of p ≡ reading (meaning_of self)) }
     {
@@ -139,12 +139,14 @@ impl Opcode {
         let add = Item::Binary(Binary::Add);
         let shl = Item::Binary(Binary::Shl);
         match self {
-            Opcode::Ldi => Pattern::try_from([Item::Constant(Interval::new(0, u32::MAX).ok_or(
-                MalformedPattern,
-            )?)]),
-            Opcode::Ldq => Pattern::try_from([Item::Constant(Interval::new(0, 255).ok_or(
-                MalformedPattern,
-            )?)]),
+            Opcode::Ldi => {
+                let constant = Item::Constant(Interval::new(0, u32::MAX).ok_or(MalformedPattern)?);
+                Pattern::try_from([constant])
+            }
+            Opcode::Ldq => {
+                let constant = Item::Constant(Interval::new(0, 255).ok_or(MalformedPattern)?);
+                Pattern::try_from([constant])
+            }
             Opcode::Ldv => Pattern::try_from([Item::Variable]),
             Opcode::Pair(operator) => Pattern::try_from([Item::Binary(operator), data, data]),
             Opcode::Single(operator) => Pattern::try_from([Item::Unary(operator), data]),

@@ -100,15 +100,16 @@ impl Opcode {
         }
     }
 
-    // The pattern of its meaning; it is one.
+    // The pattern of its meaning; it is one. No `Option`: made in each line, that would move the pattern once more.
     fn meaning(self) -> Result<Pattern, MalformedPattern>
         ensures { IsOkAnd result (λ p. items_of p ≡ reading (meaning_of self)) }
     {
         let operand = Item::Operand(S);
         match self {
-            Opcode::Push => Pattern::try_from([Item::Constant(Interval::new(0, u32::MAX).ok_or(
-                MalformedPattern,
-            )?)]),
+            Opcode::Push => {
+                let constant = Item::Constant(Interval::new(0, u32::MAX).ok_or(MalformedPattern)?);
+                Pattern::try_from([constant])
+            }
             Opcode::Load => Pattern::try_from([Item::Variable]),
             Opcode::Pair(operator) => Pattern::try_from([Item::Binary(operator), operand, operand]),
             Opcode::Single(operator) => Pattern::try_from([Item::Unary(operator), operand]),
